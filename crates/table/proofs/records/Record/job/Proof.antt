@@ -1,0 +1,25 @@
+use native.Mathlib.Omega.{arith}
+use mathlib.Core.Path.{_∙_}
+use borrow.Author.Needs.{needs}
+use Rattle.table.proofs.Laws.{sized-cut, sized-has}
+use Rattle.table.proofs.records.Record.job.Statement.{statement}
+use Rattle.table.proofs.records.Record.job.Tie as tie
+
+returns : tie.Need-returns
+returns c = sized-cut _ _ _ (c .if1 .taken)
+
+four-requires : tie.Need-four-requires
+four-requires c κs = search needs
+
+shared-slice-read-t6 : tie.Need-shared-slice-read-t6
+shared-slice-read-t6 c = search needs
+
+shared-slice-read-t8 : tie.Need-shared-slice-read-t8
+shared-slice-read-t8 c = search needs
+
+returns-2 : tie.Need-returns-2
+returns-2 c = (cc) ∙ sized-has _ _ _ (omega arith)
+
+pub job-spec : {M : Type 1} → statement M
+job-spec =
+    tie.close (tie.spec returns four-requires shared-slice-read-t6 shared-slice-read-t8 returns-2)

@@ -1,0 +1,21 @@
+use borrow.Author.Needs.{needs}
+use Rattle.table.proofs.scan.Spot.or.Statement.{statement}
+use Rattle.table.proofs.scan.Spot.or.Tie as tie
+
+enum-known-self : tie.Need-enum-known-self
+enum-known-self c = search needs
+
+enum-told : tie.Need-enum-told
+enum-told c = search needs
+
+returns : tie.Need-returns
+returns c = rw (c .before .enum-told .given .1, c .if1 .taken)
+
+returns-2 : tie.Need-returns-2
+returns-2 c = rw (c .before .self .given .1)
+
+returns-3 : tie.Need-returns-3
+returns-3 c = search needs
+
+pub or-spec : {M : Type 1} → statement M
+or-spec = tie.close (tie.spec enum-known-self enum-told returns returns-2 returns-3)
