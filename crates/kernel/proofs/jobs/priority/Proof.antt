@@ -1,0 +1,15 @@
+use borrow.Author.Needs.{needs}
+use Rattle.kernel.specs.Words.{setOf}
+use Rattle.kernel.specs.Jobs.{clipped}
+use Rattle.kernel.proofs.jobs.priority.Statement.{statement}
+use Rattle.kernel.proofs.jobs.priority.Tie as tie
+
+segment-word-requires : tie.Need-segment-word-requires
+segment-word-requires c κs = search needs
+
+returns : tie.Need-returns
+unfolding setOf clipped
+returns c = c .segment-word .ensures
+
+pub priority-spec : {M : Type 1} → statement M
+priority-spec = tie.close (tie.spec segment-word-requires returns)

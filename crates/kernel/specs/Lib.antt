@@ -1,0 +1,6 @@
+pub mod Rules
+pub mod Jobs
+pub mod Log
+pub mod Words
+pub mod Samples
+pub mod Laws

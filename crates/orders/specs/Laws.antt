@@ -1,0 +1,16 @@
+pub mod Lists
+pub mod Box
+pub mod Unique
+pub mod Ending
+pub mod Paths
+pub mod Spans
+pub mod Child
+pub mod Exact
+pub mod Walk
+pub mod Siblings
+pub mod Reached
+pub mod First
+pub mod Right
+pub mod Depth
+pub mod Words
+pub mod Samples

@@ -1,0 +1,3 @@
+pub mod Orders
+pub mod Nodes
+pub mod Laws
