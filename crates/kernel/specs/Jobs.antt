@@ -11,6 +11,11 @@ unfoldable pub largest : (ℕ → ℕ) → ℕ → ℕ
 largest f zero = 0
 largest f (suc n) = max (largest f n) (f n)
 
+-- the sum of f 0 to f (n - 1)
+unfoldable pub sum : (ℕ → ℕ) → ℕ → ℕ
+sum f zero = 0
+sum f (suc n) = sum f n + f n
+
 -- bit `lock` of the held locks
 abbrev pub holds : (held lock : ℕ) → Bool
 holds held lock = eqb (held / 2 ^ lock % 2) 1

@@ -1,4 +1,7 @@
 pub mod Tests
+pub mod Sums
+pub mod Largest
+pub mod Stores
 pub mod Places
 pub mod Pick
 pub mod Control
@@ -17,3 +20,6 @@ pub mod Cut
 pub mod Range
 pub mod Times
 pub mod Key
+pub mod Small
+pub mod Shows
+pub mod Serves

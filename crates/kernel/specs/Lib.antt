@@ -2,5 +2,6 @@ pub mod Rules
 pub mod Jobs
 pub mod Log
 pub mod Words
+pub mod Code
 pub mod Samples
 pub mod Laws

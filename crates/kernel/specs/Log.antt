@@ -5,7 +5,7 @@ use mathlib.Core.List.{List, [], _∷_, _++_}
 use lib.ListN.{getD}
 use lib.Dec.{ltb}
 use Rattle.kernel.specs.Rules.{JobSet, Kind, FIRST, END, STEP, CUT, Switch}
-use Rattle.kernel.specs.Laws.Fall.{sum}
+use Rattle.kernel.specs.Jobs.{sum}
 
 -- the numbers of the kinds
 abbrev pub kindNumber : Kind → ℕ

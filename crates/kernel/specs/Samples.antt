@@ -9,7 +9,7 @@ use Rattle.kernel.specs.Rules.{JobSet, put, Kind, FIRST, END, STEP, CUT,
 use Rattle.kernel.specs.Laws.Tests.{iflt}
 use Rattle.kernel.specs.Laws.Places.{put2}
 use Rattle.kernel.specs.Laws.Control.{Lawful}
-use Rattle.kernel.specs.Laws.Fall.{sum}
+use Rattle.kernel.specs.Jobs.{sum}
 use Rattle.kernel.specs.Laws.Clock.{clock, doneAt}
 use Rattle.kernel.specs.Laws.Ending.{lastEnd, all-in-frame, late-iff}
 use Rattle.kernel.specs.Laws.Times.{logOf, readOn, readAll, timesOf}

@@ -5,9 +5,8 @@ use mathlib.Core.Path.{_≡_}
 use mathlib.Core.List.{List}
 use lib.ListN.{getD}
 use Rattle.kernel.specs.Rules.{JobSet}
-use Rattle.kernel.specs.Jobs.{ifJob, clipped}
+use Rattle.kernel.specs.Jobs.{sum, ifJob, clipped}
 use Rattle.kernel.specs.Laws.Control.{Lawful}
-use Rattle.kernel.specs.Laws.Fall.{sum}
 
 abbrev pub jobWord : List ℕ → (i which : ℕ) → ℕ
 jobWord w i which = getD w (2 + 4 * i + which) 0
@@ -38,6 +37,7 @@ pub record Loaded (w : List ℕ) : Type 0 where
   pub few-segments : sum (setOf w .segments) (setOf w .jobs) ≤ 64
   pub firsts : (i : ℕ) → i < setOf w .jobs → firstOf w i ≡ sum (setOf w .segments) i
   pub small-frame : setOf w .frame ≤ 1000000
+  pub small-release : (i : ℕ) → i < setOf w .jobs → setOf w .release i < setOf w .frame
   pub small-base : (i : ℕ) → i < setOf w .jobs → setOf w .base i ≤ 200
   pub small-priority : (i k : ℕ) → i < setOf w .jobs → k < setOf w .segments i → setOf w .priority i k ≤ 201
   pub small-times : (i k : ℕ) → i < setOf w .jobs → k < setOf w .segments i → setOf w .longest i k ≤ 1000000

@@ -3,6 +3,7 @@ ghost use mathlib.Core.Path.{_≡_};
 ghost use Prim.Native.Nat.{_+_, _*_};
 ghost use lib.ListN.{getD};
 ghost use Rattle.kernel.specs.Words.{setOf, firstOf};
+ghost use Rattle.kernel.specs.Code.{timeAt};
 ghost use Rattle.kernel.specs.Jobs.{ifJob, ifSegment};
 
 pub fn word_at(words: &[u32], i: usize) -> u32
@@ -87,4 +88,11 @@ pub fn priority(set: &[u32; 322], i: usize, k: u32) -> u32
     ensures { λ r. ⌜ r ≡ setOf (now (set .entry)) .priority i k ⌝ }
 {
     segment_word(set, i, k, 2)
+}
+
+// The time of segment k of job i, of one time per segment in table order.
+pub fn time(set: &[u32; 322], times: &[u32], i: usize, k: u32) -> u32
+    ensures { λ r. ⌜ r ≡ timeAt (now (set .entry)) (now (times .entry)) i k ⌝ }
+{
+    word_at(times, first(set, i) as usize + k as usize)
 }

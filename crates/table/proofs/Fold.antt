@@ -1,6 +1,6 @@
 -- One record more: each definition over a list of records, at the list with a record put at its end. Then the table and the scan there.
-use Prim.Native.Nat.{ℕ, zero, suc, _+_, _<_, _≤_}
-use native.Mathlib.Nat.{zero-add, add-assoc, add-comm}
+use Prim.Native.Nat.{ℕ, zero, suc, _+_, _≤_}
+use native.Mathlib.Nat.{zero-add, add-assoc}
 use native.Mathlib.Omega.{arith}
 use mathlib.Core.Path.{_≡_, refl, sym, _∙_, ap}
 use mathlib.Core.List.{List, [], _∷_, _++_, map, append-nil, append-assoc}
@@ -15,8 +15,6 @@ use Rattle.table.specs.Table.{JobEntry, SegmentEntry, segmentIn, jobIn, 
 use Rattle.table.specs.Refusal.{nothing, learn, outside, earlier, beyond, when, failing}
 use Rattle.table.specs.Steps.{kept, withFrame, withJob, withSegment, added, knownBy, knownOf, spotOf, firstSpot, scanOf, scanned}
 use Rattle.table.specs.declared.scan.Known.{Known}
-use Rattle.table.specs.declared.scan.Spot.{Spot}
-use Rattle.table.specs.declared.scan.Spot.the-variants.{Nowhere, At}
 use Rattle.table.specs.declared.records.Record.{Record}
 use Rattle.table.specs.declared.records.Record.the-variants.{Frame, Job, Segment}
 

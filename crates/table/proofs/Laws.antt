@@ -1,15 +1,13 @@
 -- Laws of one record's reading: which case of `sized` and of `marked` holds.
 use Prim.Native.Nat.{ℕ, _≤_, _<_}
-use mathlib.Core.Path.{_≡_, refl}
+use mathlib.Core.Path.{_≡_}
 use mathlib.Core.List.{List}
-use mathlib.Core.Bool.{Bool, true, false, cond}
 use lib.ListN.{length}
 use borrow.Author.Tests.{le-leb, lt-leb, eq-eqb, ne-eqb}
 use Rattle.table.specs.Records.{le2, sized, marked, recordAt}
 use Rattle.table.specs.declared.records.Place.{Place}
 use Rattle.table.specs.declared.records.Place.the-variants.{First, Next, Within}
 use Rattle.table.specs.declared.records.Record.{Record}
-use Rattle.table.specs.declared.records.Answer.{Answer}
 use Rattle.table.specs.declared.records.Answer.the-variants.{Whole, Refused}
 
 pub sized-cut : (s : List ℕ) (n : ℕ) (r : Record) → length s < n → Refused 1 ≡ sized s n r

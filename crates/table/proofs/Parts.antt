@@ -4,13 +4,13 @@ use native.Mathlib.Nat.{add-sub-cancel-left}
 use native.Mathlib.Omega.{arith}
 use mathlib.Core.Path.{_≡_, refl, sym, _∙_, ap}
 use mathlib.Core.List.{List, [], _∷_, map}
-use mathlib.Core.Bool.{Bool, true, false}
-use lib.ListN.{length, getD, take, drop, length-drop}
+use mathlib.Core.Bool.{true, false}
+use lib.ListN.{length, getD, drop, length-drop}
 use borrow.Author.Tests.{eq-eqb, ne-eqb, lt-ltb, le-ltb}
 use denote.Ref.{RefT}
 use borrow.Rule.Slice.PartAt.{slPart}
 use Rattle.table.specs.Records.{Placed, recordAt, sizeOf, due, lacking, placeAfter, mayEnd, readingOf}
-use Rattle.table.specs.Table.{JobEntry, jobsFrom, jobsOf, tableFrom, recorded}
+use Rattle.table.specs.Table.{JobEntry, jobsFrom, tableFrom, recorded}
 use Rattle.table.specs.Refusal.{refusal, outcomeOf}
 use Rattle.table.specs.Part.{jobsIn, has, startOf, lengthOf, partOf, Lies}
 use Rattle.table.specs.declared.Outcome.{Outcome}

@@ -1,14 +1,14 @@
 -- Every accepted table is sound: its numbers are within their bounds, releases do not fall, and first segments add up.
-use Prim.Native.Nat.{ℕ, zero, suc, _+_, _*_, _-_, _<_, _≤_}
+use Prim.Native.Nat.{ℕ, zero, suc, _+_, _-_, _<_, _≤_}
 use native.Mathlib.Omega.{arith}
-use mathlib.Core.Path.{_≡_, refl, sym, _∙_, ap}
-use mathlib.Core.List.{List, [], _∷_, _++_, map}
+use mathlib.Core.Path.{_≡_, refl, sym, _∙_}
+use mathlib.Core.List.{List, [], _∷_, map}
 use mathlib.Core.Bool.{Bool, true, false, cond, _||_, true≢false}
-use lib.ListN.{length, getD, drop}
+use lib.ListN.{length, getD}
 use lib.Dec.{leb, ltb, eqb}
 use borrow.Author.Tests.{leb-false, ltb-false, eqb-false}
-use Rattle.table.specs.Records.{Placed, recordAt, sizeOf, due, lacking, placeAfter, mayEnd, readingOf}
-use Rattle.table.specs.Table.{JobEntry, SegmentEntry, jobIn, segmentIn, jobsFrom, jobsOf, segmentsOf, frameOf, padded, tableFrom, recorded}
+use Rattle.table.specs.Records.{Placed, recordAt, due, lacking, placeAfter, mayEnd, readingOf}
+use Rattle.table.specs.Table.{JobEntry, SegmentEntry, jobsFrom, jobsOf, segmentsOf, frameOf, padded, tableFrom, recorded}
 use Rattle.table.specs.Refusal.{nothing, learn, outside, earlier, beyond, failing, refusal, outcomeOf}
 use Rattle.table.specs.Sound.{SoundJob, SoundSegment, Sound}
 use Rattle.table.specs.declared.Outcome.{Outcome}
@@ -19,7 +19,7 @@ use Rattle.table.specs.declared.records.Record.{Record}
 use Rattle.table.specs.declared.records.Record.the-variants.{Frame, Job, Segment}
 use Rattle.table.specs.declared.records.Answer.the-variants.{Whole}
 use Rattle.table.proofs.Walk.{marked-whole}
-use Rattle.table.proofs.Whole.{lacking-due, ended-lacks, not-frame, not-job, each, Accepted, accepted, passes, getD-padded, refusal-is, table-is}
+use Rattle.table.proofs.Whole.{lacking-due, ended-lacks, not-frame, not-job, each, accepted, passes, getD-padded, refusal-is, table-is}
 
 neither : (a b : Bool) → (a || b) ≡ false → (a ≡ false) × (b ≡ false)
 neither true b q = absurd (true≢false q)

@@ -1,16 +1,15 @@
 -- Which refusal a reading draws: a law for each case, over what the code tests.
 use Prim.Native.Nat.{ℕ, _<_, _≤_}
-use native.Mathlib.Nat.{zero-add}
 use native.Mathlib.Omega.{arith}
 use mathlib.Core.Path.{_≡_, refl, sym, _∙_, ap}
-use mathlib.Core.List.{List, [], _∷_, _++_}
-use mathlib.Core.Bool.{Bool, true, false, cond}
+use mathlib.Core.List.{List, [], _∷_}
+use mathlib.Core.Bool.{true, false}
 use lib.ListN.{length}
-use lib.Dec.{ltb, eqb}
+use lib.Dec.{eqb}
 use borrow.Author.Tests.{le-ltb, lt-ltb, eq-eqb, ne-eqb}
-use Rattle.table.specs.Records.{Placed, mayEnd, Reading, readingOf}
+use Rattle.table.specs.Records.{Placed, mayEnd, readingOf}
 use Rattle.table.specs.Table.{jobsOf, tableFrom, recorded}
-use Rattle.table.specs.Refusal.{nothing, outside, earlier, beyond, when, failing, Refusal, orElse, refusalIn, refusal, answer, outcomeOf}
+use Rattle.table.specs.Refusal.{nothing, outside, earlier, beyond, failing, Refusal, orElse, refusalIn, refusal, answer, outcomeOf}
 use Rattle.table.specs.Steps.{spotOf, scanOf, endedAt, answerTo}
 use Rattle.table.specs.declared.Outcome.{Outcome}
 use Rattle.table.specs.declared.Table.{Table}

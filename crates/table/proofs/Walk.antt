@@ -10,7 +10,7 @@ use lib.Seq.{drop-drop}
 use lib.Dec.{leb, eqb}
 use borrow.Author.Tests.{leb-true, eq-eqb, ne-eqb}
 use Rattle.table.specs.Records.{le2, sized, marked, recordAt, sizeOf, placeAfter, mayEnd, Placed, Reading, atEnd, ahead, goesOn, readFrom, readingOf}
-use Rattle.table.specs.Table.{tableFrom, recorded}
+use Rattle.table.specs.Table.{recorded}
 use Rattle.table.specs.Refusal.{nothing, learn}
 use Rattle.table.specs.Steps.{added, knownBy, knownOf, scanned, scanOf, endedAt}
 use Rattle.table.specs.declared.Table.{Table}

@@ -1,21 +1,20 @@
 -- Induction over a reading that is whole, and what an accepted table is known for.
-use Prim.Native.Nat.{ℕ, zero, suc, _+_, _*_, _-_, _<_, _≤_}
+use Prim.Native.Nat.{ℕ, zero, suc, _+_, _-_, _<_}
 use native.Mathlib.Omega.{arith}
 use mathlib.Core.Path.{_≡_, refl, sym, _∙_, ap}
 use mathlib.Core.List.{List, [], _∷_, _++_}
-use mathlib.Core.Bool.{Bool, true, false, cond, true≢false}
+use mathlib.Core.Bool.{Bool, true, false, cond}
 use lib.ListN.{length, getD, drop}
-use lib.Dec.{ltb, leb, eqb}
+use lib.Dec.{ltb, eqb}
 use borrow.Author.Tests.{eqb-true, eqb-false, eq-eqb}
 use Rattle.table.specs.Records.{Placed, recordAt, sizeOf, due, lacking, placeAfter, mayEnd, Reading, atEnd, ahead, goesOn, readFrom, readingOf}
 use Rattle.table.specs.Table.{jobsOf, padded, recorded}
-use Rattle.table.specs.Refusal.{nothing, outside, earlier, beyond, when, failing, Refusal, orElse, refusalIn, refusal, answer, outcomeOf, tableOf}
+use Rattle.table.specs.Refusal.{nothing, outside, earlier, beyond, when, failing, Refusal, orElse, refusalIn, refusal, answer, outcomeOf}
 use Rattle.table.specs.declared.Outcome.{Outcome}
-use Rattle.table.specs.declared.Table.{Table}
 use Rattle.table.specs.declared.records.Place.{Place}
 use Rattle.table.specs.declared.records.Place.the-variants.{First, Next, Within}
 use Rattle.table.specs.declared.records.Record.{Record}
-use Rattle.table.specs.declared.records.Record.the-variants.{Frame, Job, Segment}
+use Rattle.table.specs.declared.records.Record.the-variants.{Frame, Job}
 use Rattle.table.specs.declared.records.Answer.{Answer}
 use Rattle.table.specs.declared.records.Answer.the-variants.{Whole, Refused}
 use Rattle.table.proofs.Walk.{marked-whole}

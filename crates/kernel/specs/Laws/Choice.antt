@@ -141,6 +141,10 @@ module _ (J : JobSet) (L : Lawful J) (p : Progress) (tick : ℕ) where
   pub best-ready : best J p tick (J .jobs) < J .jobs → ready J p tick (best J p tick (J .jobs)) ≡ true
   best-ready h = pos-ready J p tick (best J p tick (J .jobs)) (chosen .real h)
 
+  -- it is one of the jobs, or none
+  pub best-inside : best J p tick (J .jobs) ≤ J .jobs
+  best-inside = chosen .inside
+
   -- where one is ready, one is dispatched
   pub best-some : (i : ℕ) → i < J .jobs → ready J p tick i ≡ true → best J p tick (J .jobs) < J .jobs
   best-some i h r =

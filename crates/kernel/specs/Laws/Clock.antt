@@ -2,6 +2,7 @@
 use mathlib.Core.Path.{_≡_, refl, ap, ap₂}
 use mathlib.Core.Logic.{_≢_}
 use Prim.Native.Nat.{ℕ, zero, suc, _+_, _≤_, _<_, max}
+use native.Mathlib.Numerals.{add-one}
 use native.Mathlib.Omega.{arith}
 use Rattle.kernel.specs.Laws.Tests.{split, iflt, if-lt, if-ge}
 
@@ -9,16 +10,19 @@ use Rattle.kernel.specs.Laws.Tests.{split, iflt, if-lt, if-ge}
 unfoldable pub doneAt : (c r w : ℕ) → ℕ
 doneAt c r w = iflt 0 w (max c r + w) c
 
-done-some : (c r w : ℕ) → 0 < w → doneAt c r w ≡ max c r + w
+pub done-some : (c r w : ℕ) → 0 < w → doneAt c r w ≡ max c r + w
 unfolding doneAt
 done-some c r w h = if-lt _ _ _ _ h
 
-done-none : (c r w : ℕ) → w ≡ 0 → doneAt c r w ≡ c
+pub done-none : (c r w : ℕ) → w ≡ 0 → doneAt c r w ≡ c
 unfolding doneAt
 done-none c r w h = if-ge _ _ _ _ (omega arith)
 
 done-out : (c r w : ℕ) → r ≤ c → doneAt c r w ≡ c + w
 done-out c r w h = split 0 w (λ (q : 0 < w). omega (arith, done-some c r w q)) (λ (q : w ≤ 0). omega (arith, done-none c r w (omega arith)))
+
+pub done-most : (c r w : ℕ) → doneAt c r w ≤ max c r + w
+done-most c r w = split 0 w (λ (q : 0 < w). omega (arith, done-some c r w q)) (λ (q : w ≤ 0). omega (arith, done-none c r w (omega arith)))
 
 done-ge : (c r w : ℕ) → c ≤ doneAt c r w
 done-ge c r w = split 0 w (λ (q : 0 < w). omega (arith, done-some c r w q)) (λ (q : w ≤ 0). omega (arith, done-none c r w (omega arith)))
@@ -32,6 +36,18 @@ done-mono c d r v w h k = split 0 v
 unfoldable pub clock : (release work : ℕ → ℕ) (c k : ℕ) → ℕ
 clock r w c zero = c
 clock r w c (suc k) = doneAt (clock r w c k) (r k) (w k)
+
+-- a loop that has passed no job yet, passes one more, and has passed all
+pub clock-start : (r w : ℕ → ℕ) (c : ℕ) → c ≡ clock r w c 0
+unfolding clock
+clock-start r w c = refl
+
+pub clock-more : (r w : ℕ → ℕ) (c k e d : ℕ) → e ≡ clock r w c k → d ≡ doneAt e (r k) (w k) → d ≡ clock r w c (k + 1)
+unfolding clock
+clock-more r w c k e d p q = rw (add-one k, ← p) q
+
+pub clock-all : (r w : ℕ → ℕ) (c n k e : ℕ) → k ≤ n → n ≤ k → e ≡ clock r w c k → e ≡ clock r w c n
+clock-all r w c n k e h q p = let z : n ≡ k = omega arith in rw z p
 
 pub clock-ge : (r w : ℕ → ℕ) (c k : ℕ) → c ≤ clock r w c k
 unfolding clock

@@ -12,19 +12,11 @@ use Rattle.kernel.specs.Rules.{JobSet, Progress, Run, nextSegment, oneTi
 use Rattle.kernel.specs.Laws.Tests.{split}
 use Rattle.kernel.specs.Laws.Places.{put-both, put-cases, put-same, put-other}
 use Rattle.kernel.specs.Laws.Control.{Lawful, Positive, positive-times}
-use Rattle.kernel.specs.Laws.Fall.{sum, sum-le}
+use Rattle.kernel.specs.Jobs.{sum}
+use Rattle.kernel.specs.Laws.Sums.{sum-le, sum-rises}
 use Rattle.kernel.specs.Laws.Choice.{ready-released, ready-open, ready-of, best-ready, best-some}
 use Rattle.kernel.specs.Laws.Ticks.{over-cases, end-cases, tick-some, tick-none}
 use Rattle.kernel.specs.Laws.Clock.{clock, clock-ge, clock-mono, clock-none, clock-idle, clock-ran}
-
--- ---- sums
-
-sum-grow : (f : ℕ → ℕ) (m n : ℕ) → m ≤ n → sum f m ≤ sum f n
-unfolding sum
-sum-grow f m zero h = let e : m ≡ 0 = omega arith in rw e (omega arith)
-sum-grow f m (suc n) h = split m (suc n)
-    (λ (q : m < suc n). omega (arith, sum-grow f m n (omega arith)))
-    (λ (q : suc n ≤ m). let e : m ≡ suc n = omega arith in rw e (omega arith))
 
 -- ---- what is left to do
 
@@ -87,12 +79,12 @@ module _ (J : JobSet) (time : ℕ → ℕ → ℕ) where
 
   -- work is left just of what is unfinished
   closed-left : (p : Progress) (i : ℕ) → J .segments i ≤ p .segment i → workLeft p i ≡ 0
-  closed-left p i h = omega (arith, sum-grow (time i) (J .segments i) (p .segment i) h)
+  closed-left p i h = omega (arith, sum-rises (time i) (J .segments i) (p .segment i) h)
 
   had-left : (p : Progress) (i : ℕ) → p .segment i < J .segments i → p .had i < time i (p .segment i)
       → sum (time i) (p .segment i) + p .had i < work i
   unfolding sum
-  had-left p i h l = omega (arith, sum-grow (time i) (suc (p .segment i)) (J .segments i) h)
+  had-left p i h l = omega (arith, sum-rises (time i) (suc (p .segment i)) (J .segments i) h)
 
 module _ (J : JobSet) (L : Lawful J) (time : ℕ → ℕ → ℕ) where
   -- when all is done, from a tick on

@@ -1,29 +1,15 @@
 -- What falls with each switch: unfinished segments and jobs not begun.
-use mathlib.Core.Path.{_≡_, ap}
+use mathlib.Core.Path.{_≡_}
 use mathlib.Core.Bool.{true, false, cond}
 use Prim.Native.Nat.{ℕ, zero, suc, _+_, _-_, _*_, _≤_, _<_}
 use native.Mathlib.Omega.{arith}
 use native.Mathlib.Decide.{ℕ-discrete}
 use Rattle.kernel.specs.Rules.{JobSet}
+use Rattle.kernel.specs.Jobs.{sum}
+use Rattle.kernel.specs.Laws.Sums.{sum-lt}
 use Rattle.kernel.specs.Laws.Tests.{split, if-lt, if-ge}
 use Rattle.kernel.specs.Laws.Places.{put-same, put-other}
 use Rattle.kernel.specs.Laws.Control.{Control, leave, mark, weight, weight-pos}
-
-unfoldable pub sum : (ℕ → ℕ) → ℕ → ℕ
-sum f zero = 0
-sum f (suc k) = sum f k + f k
-
-pub sum-le : (f g : ℕ → ℕ) (k : ℕ) → ((i : ℕ) → i < k → f i ≤ g i) → sum f k ≤ sum g k
-unfolding sum
-sum-le f g zero h = omega arith
-sum-le f g (suc k) h = omega (arith, sum-le f g k (λ i q. h i (omega arith)), h k (omega arith))
-
-pub sum-lt : (f g : ℕ → ℕ) (k j : ℕ) → ((i : ℕ) → i < k → f i ≤ g i) → j < k → f j < g j → sum f k < sum g k
-unfolding sum
-sum-lt f g zero j h q l = absurd (omega arith)
-sum-lt f g (suc k) j h q l = split j k
-    (λ (a : j < k). omega (arith, sum-lt f g k j (λ i z. h i (omega arith)) a l, h k (omega arith)))
-    (λ (a : k ≤ j). let e : j ≡ k = omega arith in omega (arith, ap f e, ap g e, sum-le f g k (λ i z. h i (omega arith))))
 
 -- what a job has still to make: its unfinished segments, and its beginning
 unfoldable pub due : JobSet → Control → ℕ → ℕ

@@ -30,9 +30,13 @@ job-key none w i h l =
     let m : (32 * w + (31 - i)) % 32 ≡ 31 - i = mul-add-mod-self-left 32 w (31 - i) ∙ mod-eq-of-lt (omega arith) in
     rw (key-some w i h) (if-lt 0 (32 * w + (31 - i)) _ _ (omega arith) ∙ omega (arith, m))
 
-job-none : (none : ℕ) → jobOf none 0 ≡ none
+pub job-none : (none key : ℕ) → key ≡ 0 → jobOf none key ≡ none
 unfolding jobOf
-job-none none = if-ge 0 0 (31 - 0 % 32) none (omega arith)
+job-none none key h = if-ge 0 key _ _ (omega arith)
+
+pub job-some : (none key : ℕ) → (key ≡ 0 → ⊥) → jobOf none key ≡ 31 - key % 32
+unfolding jobOf
+job-some none key h = if-lt 0 key _ _ (omega arith)
 
 -- of two jobs the one of larger weight, and among equals the lower number, has the larger key
 pub key-larger : (v w i j : ℕ) → i < j → j < 32 → max (keyOf v i) (keyOf w j) ≡ iflt v w (keyOf w j) (keyOf v i)
@@ -78,7 +82,7 @@ module _ (w : ℕ → ℕ) (n : ℕ) (few : n ≤ 32) (none : w n ≡ 0) where
       (λ (q : d < n). job-key n (w d) d (H .real q) (omega arith))
       (λ (q : n ≤ d).
       let e : d ≡ n = omega (arith, H .inside) in
-      rw (key-none (w d) d (ap w e ∙ none)) (job-none n ∙ sym e))
+      rw (key-none (w d) d (ap w e ∙ none)) (job-none n 0 refl ∙ sym e))
 
 -- ---- the jobs that are released come first
 

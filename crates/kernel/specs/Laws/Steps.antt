@@ -9,7 +9,8 @@ use borrow.Author.Tests.{lt-ltb}
 use Rattle.kernel.specs.Rules.{JobSet, Progress, oneTick, Run, Switch, first, reported, runTick, switchAt, lastSwitch, over, fresh, endSegment, switches, ends, runOf, inFrame, Within}
 use Rattle.kernel.specs.Laws.Tests.{split, if-lt, if-ge}
 use Rattle.kernel.specs.Laws.Control.{Lawful, mark, after}
-use Rattle.kernel.specs.Laws.Fall.{sum, potential, unbegun, fall-cut, potential-start}
+use Rattle.kernel.specs.Jobs.{sum}
+use Rattle.kernel.specs.Laws.Fall.{potential, unbegun, fall-cut, potential-start}
 use Rattle.kernel.specs.Laws.Step.{State, dispatch, Point, step, switchOf, switchesFrom, firstTick, firstState, firstOut}
 use Rattle.kernel.specs.Laws.Sound.{SoundAt, some-left, sound-step, fall-step, first-inside, sound-first}
 use Rattle.kernel.specs.Laws.Ending.{endOf, ends-at}

@@ -6,7 +6,8 @@ use lib.ListN.{length}
 use Rattle.kernel.specs.Rules.{JobSet}
 use Rattle.kernel.specs.Laws.Tests.{split, if-lt, if-ge}
 use Rattle.kernel.specs.Laws.Control.{Lawful}
-use Rattle.kernel.specs.Laws.Fall.{sum, potential}
+use Rattle.kernel.specs.Jobs.{sum}
+use Rattle.kernel.specs.Laws.Fall.{potential}
 use Rattle.kernel.specs.Laws.Step.{State, firstState}
 use Rattle.orders.specs.Orders.{Forest, none, node}
 use Rattle.orders.specs.Laws.Lists.{All, all-map, all-zip, all-append, all-of-map}

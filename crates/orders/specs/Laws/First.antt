@@ -7,7 +7,8 @@ use Rattle.kernel.specs.Rules.{JobSet, FIRST}
 use Rattle.kernel.specs.Laws.Tests.{if-lt}
 use Rattle.kernel.specs.Laws.Pick.{disp}
 use Rattle.kernel.specs.Laws.Control.{Lawful, weight, after, released}
-use Rattle.kernel.specs.Laws.Fall.{sum, potential, potential-start, fall-cut, unbegun}
+use Rattle.kernel.specs.Jobs.{sum}
+use Rattle.kernel.specs.Laws.Fall.{potential, potential-start, fall-cut, unbegun}
 use Rattle.kernel.specs.Laws.Step.{dispatch, firstState}
 use Rattle.orders.specs.Laws.Box.{Span, child}
 use Rattle.orders.specs.Laws.Spans.{SpanOk}

@@ -9,7 +9,8 @@ use Rattle.kernel.specs.Laws.Tests.{iflt}
 use Rattle.kernel.specs.Laws.Places.{put2}
 use Rattle.kernel.specs.Laws.Pick.{heaviest, firstAboveOf, rank, pick, firstOpen, next, firstAbove}
 use Rattle.kernel.specs.Laws.Control.{Lawful, leave, mark, weight}
-use Rattle.kernel.specs.Laws.Fall.{sum, unbegun}
+use Rattle.kernel.specs.Jobs.{sum}
+use Rattle.kernel.specs.Laws.Fall.{unbegun}
 use Rattle.kernel.specs.Laws.Step.{dispatch, leaveKindOf}
 use Rattle.orders.specs.Orders.{size, numbered}
 use Rattle.orders.specs.Nodes.{treeWords, orders}

@@ -3,7 +3,7 @@ use Prim.Native.Nat.{ℕ, zero, suc, _+_, _-_}
 use mathlib.Core.List.{List, [], _∷_}
 use Rattle.kernel.specs.Rules.{JobSet, FIRST}
 use Rattle.kernel.specs.Laws.Tests.{iflt}
-use Rattle.kernel.specs.Laws.Fall.{sum}
+use Rattle.kernel.specs.Jobs.{sum}
 use Rattle.kernel.specs.Laws.Step.{State, present, firstTick, firstState}
 use Rattle.orders.specs.Orders.{Label, Info, Forest, none, node}
 use Rattle.orders.specs.Laws.Box.{Box, Child, children}

@@ -1,0 +1,2 @@
+pub mod Clipped
+pub mod Accepted
