@@ -1,13 +1,34 @@
-// What a reading answers, as text.
+// What the library answers, as text.
 use crate::text;
 use table::Table;
 
-fn number(n: u64) {
+pub fn number(n: u64) {
     io::print_decimal(1, n);
 }
 
 fn blank() {
     io::write_all(1, b" ");
+}
+
+// A word, and `-` for 4,294,967,295.
+fn word(w: u32) {
+    blank();
+    if w == 4294967295 {
+        io::write_all(1, b"-");
+    } else {
+        number(w as u64);
+    }
+}
+
+// The first n words of a row.
+pub fn words(row: &[u32], n: usize) {
+    let mut i: usize = 0;
+    while i < row.len() {
+        if i < n {
+            word(row[i]);
+        }
+        i += 1;
+    }
 }
 
 fn two_digits(byte: u8) {

@@ -71,6 +71,44 @@ pub fn word(s: &[u8], number: usize) -> &[u8] {
     between(s, at, blank(s, at))
 }
 
+// A number in decimal, modulo 2^32; `-` is 4,294,967,295.
+pub fn number(s: &[u8]) -> u32 {
+    if starts(s, b"-") {
+        return 4294967295;
+    }
+    let mut n: u64 = 0;
+    let mut i: usize = 0;
+    while i < s.len() {
+        n = (10 * n + digit(byte_at(s, i)) as u64) % 4294967296;
+        i += 1;
+    }
+    n as u32
+}
+
+// The numbers of a line after its first word, as many as fit. Answers how many there are.
+pub fn numbers_into(s: &[u8], out: &mut [u32]) -> usize {
+    let mut at = blank(s, 0);
+    let mut n: usize = 0;
+    while n < out.len() {
+        if s.len() <= at {
+            return n;
+        }
+        let end = blank(s, at + 1);
+        out[n] = number(between(s, at + 1, end));
+        at = end;
+        n += 1;
+    }
+    n
+}
+
+// The first n words of a row, all where it has fewer.
+pub fn first_words(words: &[u32], n: usize) -> &[u32] {
+    if n <= words.len() {
+        return &words[..n];
+    }
+    words
+}
+
 fn digit(c: u8) -> u8
     ensures { λ r. ⌜ r < 16 ⌝ }
 {

@@ -1,0 +1,60 @@
+// The commands that call a service. Each lends words that hold a mark, and tells where a word was touched that the service is not said to write.
+ghost use Prim.Native.Nat.{_≤_};
+use crate::show;
+use crate::text;
+
+const MARK: u32 = 2863311530;
+
+// As many words as are asked for, and no more than there are.
+fn lent(room: usize, all: usize) -> usize
+    ensures { λ r. ⌜ r ≤ all ⌝ }
+{
+    if room < all { room } else { all }
+}
+
+fn mark(words: &mut [u32]) {
+    let mut i: usize = 0;
+    while i < words.len() {
+        words[i] = MARK;
+        i += 1;
+    }
+}
+
+// The words from n on still hold the mark.
+fn untouched(words: &[u32], n: usize) -> bool {
+    let mut i = n;
+    while i < words.len() {
+        if words[i] != MARK {
+            return false;
+        }
+        i += 1;
+    }
+    true
+}
+
+// A refusal's number, the first n words of a row, and whether the others are as they were.
+fn answer(refusal: u32, words: &[u32], n: usize) {
+    io::write_all(1, b"-> ");
+    show::number(refusal as u64);
+    show::words(words, n);
+    if !untouched(words, n) {
+        io::write_all(1, b" touched");
+    }
+    io::write_all(1, b"\n");
+}
+
+// replay TIMES: the refusal and the log.
+fn replay(table: &[u8], times: &[u32], log: &mut [u32]) {
+    let replayed = services::replay(table, times, log);
+    let switches = replayed.switches as usize;
+    answer(replayed.refusal, log, 4 * switches);
+}
+
+pub fn service(line: &[u8], table: &[u8], room: usize, numbers: &mut [u32], words: &mut [u32]) {
+    mark(words);
+    let n = text::numbers_into(line, numbers);
+    let all = lent(room, words.len());
+    if text::starts(line, b"replay") {
+        replay(table, text::first_words(numbers, n), &mut words[0..all]);
+    }
+}
