@@ -23,13 +23,13 @@ module _ (w : List ℕ) (L : Loaded w) (times : List ℕ) where
   same-time : (i k : ℕ) → i < setOf w .jobs → timeAt w times i k ≡ timeIn (setOf w) times i k
   same-time i k h = ap (λ (n : ℕ). getD times (n + k) 0) (L .firsts i h)
 
-  jobs-within : FitJobs w times → Within (setOf w) (timeIn (setOf w) times)
+  pub jobs-within : FitJobs w times → Within (setOf w) (timeIn (setOf w) times)
   jobs-within F = record {
     low = λ i k h q. omega (arith, same-time i k h, F i h k q .0);
     high = λ i k h q. omega (arith, same-time i k h, F i h k q .1);
   }
 
-  within-jobs : Within (setOf w) (timeIn (setOf w) times) → FitJobs w times
+  pub within-jobs : Within (setOf w) (timeIn (setOf w) times) → FitJobs w times
   within-jobs W i h k q = (omega (arith, same-time i k h, W .low i k h q), omega (arith, same-time i k h, W .high i k h q))
 
   -- with the right number of them

@@ -4,3 +4,8 @@ pub mod Opening
 pub mod Opened
 pub mod Ran
 pub mod Once
+pub mod Credits
+pub mod Telling
+pub mod Entries
+pub mod Alike
+pub mod Verdicts

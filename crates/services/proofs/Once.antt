@@ -2,9 +2,10 @@
 use Prim.Native.Nat.{ℕ, zero, suc, _≤_, _<_}
 use native.Mathlib.Omega.{arith}
 use native.Mathlib.Decide.{ℕ-discrete}
-use mathlib.Core.Path.{_≡_, sym, _∙_}
-use mathlib.Core.List.{List}
-use lib.ListN.{length}
+use mathlib.Core.Path.{_≡_, refl, sym, ap, ap₂, _∙_}
+use mathlib.Core.Bool.{Bool, true, false, true≢false}
+use mathlib.Core.List.{List, [], _∷_}
+use lib.ListN.{length, getD, drop}
 use Rattle.table.specs.Refusal.{refusal}
 use Rattle.kernel.specs.Rules.{JobSet, Within}
 use Rattle.kernel.specs.Jobs.{sum}
@@ -14,7 +15,9 @@ use Rattle.kernel.specs.Laws.Ending.{lastEnd}
 use Rattle.services.specs.Open.{jobsIn, Runnable, Answered}
 use Rattle.services.specs.Times.{Fit}
 use Rattle.services.specs.Replay.{logIn, Replays, ReplayPromise}
+use Rattle.services.specs.Judge.{Gives, segmentsIn, Judges, JudgePromise}
 use Rattle.services.specs.declared.Replayed.{Replayed as Answer}
+use Rattle.services.specs.declared.Judged.{Judged as Verdict}
 use Rattle.services.proofs.Opening.{late-test, in-time}
 
 -- what equals the same is the same
@@ -82,3 +85,36 @@ replays-once J times before after more r s A B = fit-told J times _
 pub replay-once : (bytes times before after more : List ℕ) (r s : Answer) → ReplayPromise bytes times before after r → ReplayPromise bytes times before more s
     → (r ≡ s) × (after ≡ more)
 replay-once bytes times before after more r s = answered-once bytes (λ n. same) (replays-once (jobsIn bytes) times before after more r s)
+
+-- ---- judge
+
+list-told : (l m : List ℕ) → Told (l ≡ m)
+list-told [] [] X y x = y refl
+list-told [] (b ∷ m) X y x = x (λ e. absurd (omega (arith, ap length e)))
+list-told (a ∷ l) [] X y x = x (λ e. absurd (omega (arith, ap length e)))
+list-told (a ∷ l) (b ∷ m) X y x = both-told (a ≡ b) (l ≡ m) (eq-told a b) (list-told l m) X
+    (λ e. y (ap₂ (λ (c : ℕ) (k : List ℕ). c ∷ k) (e .0) (e .1)))
+    (λ n. x (λ e. n (ap (λ (k : List ℕ). getD k 0 0) e, ap (drop 1) e)))
+
+bool-told : (a b : Bool) → Told (a ≡ b)
+bool-told true true X y x = y refl
+bool-told false false X y x = y refl
+bool-told true false X y x = x true≢false
+bool-told false true X y x = x (λ e. true≢false (sym e))
+
+verdict-told : (r s : Verdict) → Told (r ≡ s)
+verdict-told r s X y x = both-told _ _ (eq-told (r .refusal) (s .refusal)) (bool-told (r .accepted) (s .accepted)) X
+    (λ e. y (λ z. record { refusal = e .0 z; accepted = e .1 z }))
+    (λ n. x (λ e. n (ap (λ (v : Verdict). v .refusal) e, ap (λ (v : Verdict). v .accepted) e)))
+
+-- were they not the same, no times could give the log, and then they are
+pub judges-once : (J : JobSet) (log before after more : List ℕ) (r s : Verdict) → Judges log before after r J → Judges log before more s J → (r ≡ s) × (after ≡ more)
+judges-once J log before after more r s A B = split (length before) (segmentsIn J)
+    (λ (h : length before < segmentsIn J). same (A .small h) (B .small h))
+    (λ (h : segmentsIn J ≤ length before). both-told (r ≡ s) (after ≡ more) (verdict-told r s) (list-told after more) _ (λ e. e) (λ n.
+    let none : (times : List ℕ) → Gives J times log → ⊥ = λ times G. n (same (A .done h times G) (B .done h times G)) in
+    absurd (n (same (A .foreign h none) (B .foreign h none)))))
+
+pub judge-once : (bytes log before after more : List ℕ) (r s : Verdict) → JudgePromise bytes log before after r → JudgePromise bytes log before more s
+    → (r ≡ s) × (after ≡ more)
+judge-once bytes log before after more r s = answered-once bytes (λ n. same) (judges-once (jobsIn bytes) log before after more r s)

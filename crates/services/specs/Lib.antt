@@ -1,3 +1,5 @@
 pub mod Open
 pub mod Times
 pub mod Replay
+pub mod Told
+pub mod Judge

@@ -1,8 +1,9 @@
-// The first words of an array, written at the start of lent words.
+// The first words of an array: written at the start of lent words, or compared with all of them.
 ghost use mathlib.Core.Path.{_≡_};
 ghost use Prim.Native.Nat.{_≤_};
 ghost use lib.ListN.{take, length};
 ghost use lib.Seq.{sets};
+ghost use Rattle.services.specs.Times.{Tells};
 
 pub fn copy(words: &[u32], to: &mut [u32], n: usize)
     requires { ⌜ (n ≤ length (now words)) × (n ≤ length (now to)) ⌝ }
@@ -13,4 +14,21 @@ pub fn copy(words: &[u32], to: &mut [u32], n: usize)
         to[i] = words[i];
         i += 1;
     }
+}
+
+pub fn same(row: &[u32], words: &[u32], n: usize) -> bool
+    requires { ⌜ n ≤ length (now words) ⌝ }
+    ensures { λ r. ⌜ Tells (now (row .entry) ≡ take n (now (words .entry))) r ⌝ }
+{
+    if row.len() != n {
+        return false;
+    }
+    let mut i: usize = 0;
+    while i < n {
+        if row[i] != words[i] {
+            return false;
+        }
+        i += 1;
+    }
+    true
 }

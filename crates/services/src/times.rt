@@ -39,7 +39,8 @@ fn fit_job(set: &[u32; 322], times: &[u32], i: usize) -> bool
     true
 }
 
-fn fit_jobs(set: &[u32; 322], times: &[u32]) -> bool
+// All of them are.
+pub fn fit_jobs(set: &[u32; 322], times: &[u32]) -> bool
     ensures { λ r. ⌜ Tells (FitJobs (now (set .entry)) (now (times .entry))) r ⌝ }
 {
     let n = jobs::jobs(set);

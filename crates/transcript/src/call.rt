@@ -2,6 +2,7 @@
 ghost use Prim.Native.Nat.{_≤_};
 use crate::show;
 use crate::text;
+use table::Table;
 
 const MARK: u32 = 2863311530;
 
@@ -50,11 +51,23 @@ fn replay(table: &[u8], times: &[u32], log: &mut [u32]) {
     answer(replayed.refusal, log, 4 * switches);
 }
 
+// judge LOG: the refusal and the times.
+fn judge(table: &[u8], log: &[u32], times: &mut [u32]) {
+    let judged = services::judge(table, log, times);
+    let mut count: usize = 0;
+    if judged.accepted {
+        count = Table::read(table).table.segments;
+    }
+    answer(judged.refusal, times, count);
+}
+
 pub fn service(line: &[u8], table: &[u8], room: usize, numbers: &mut [u32], words: &mut [u32]) {
     mark(words);
     let n = text::numbers_into(line, numbers);
     let all = lent(room, words.len());
     if text::starts(line, b"replay") {
         replay(table, text::first_words(numbers, n), &mut words[0..all]);
+    } else if text::starts(line, b"judge") {
+        judge(table, text::first_words(numbers, n), &mut words[0..all]);
     }
 }

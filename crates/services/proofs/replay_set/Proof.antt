@@ -8,7 +8,7 @@ use mathlib.Core.List.{List}
 use lib.ListN.{length, take, length-replicate}
 use lib.Seq.{sets, length-sets}
 use borrow.Author.Tests.{not-true, not-false}
-use Rattle.services.proofs.Ran.{fit-runs, few-ran, log-ran, words-ran, replay-unfit, replay-small, replay-done}
+use Rattle.services.proofs.Ran.{few-ran, log-ran, words-ran, room-ran, replay-unfit, replay-small, replay-done}
 use borrow.Author.Needs.{needs}
 use Rattle.services.proofs.replay_set.Statement.{statement}
 use Rattle.services.proofs.replay_set.Tie as tie
@@ -34,20 +34,20 @@ slice-aggregate-run c = search needs
 run-requires : tie.Need-run-requires
 run-requires c κs =
     let fit = c .before .before in
-    fit-runs _ _ (fit .before .before .before .pre) (fit .fit .ensures .yes (not-false _ (c .before .if1 .left)))
+    record { loaded = fit .before .before .before .pre; within = fit .fit .ensures .yes (not-false _ (c .before .if1 .left)) .within }
 
 -- src/lib.rt:37:20
 mul-if2 : tie.Need-mul-if2
 mul-if2 c =
     let fit = c .before .before .before .before in
-    omega (arith, few-ran _ _ (fit .before .before .before .pre) (fit .fit .ensures .yes (not-false _ (c .before .before .before .if1 .left))) _ _ _ (c .before .run .ensures))
+    omega (arith, few-ran _ _ (fit .before .before .before .pre) (fit .fit .ensures .yes (not-false _ (c .before .before .before .if1 .left)) .within) _ _ _ (c .before .run .ensures))
 
 -- src/lib.rt:38:9
 returns-2 : tie.Need-returns-2
 returns-2 c =
     let fit = c .before .before .before .before .before in
     let F = fit .fit .ensures .yes (not-false _ (c .before .before .before .before .if1 .left)) in
-    replay-small _ _ _ F (omega (arith, c .if2 .taken, log-ran _ _ (fit .before .before .before .pre) F _ _ _ (c .before .before .run .ensures)))
+    replay-small _ _ _ F (omega (arith, c .if2 .taken, log-ran _ _ (fit .before .before .before .pre) (F .within) _ _ _ (c .before .before .run .ensures)))
 
 -- src/lib.rt:40:16
 slice-aggregate-copy : tie.Need-slice-aggregate-copy
@@ -63,15 +63,14 @@ copy-requires c κs =
     let run = c .before .before .before .before in
     let fit = run .before .before .before in
     let F = fit .fit .ensures .yes (not-false _ (run .before .before .if1 .left)) in
-    let few = few-ran _ _ (fit .before .before .before .pre) F _ _ _ (run .run .ensures) in
-    (omega (arith, few, ap length (run .run .ensures .words), length-sets (replicate {A = ℕ} 384 0) 0 (logIn (setOf (fit .before .before .before .args .set .now)) (fit .before .before .before .args .times .now))), omega (arith, c .before .before .if2 .left))
+    (room-ran _ _ (fit .before .before .before .pre) (F .within) _ _ _ (run .run .ensures) (length-replicate {A = ℕ} 384 0), omega (arith, c .before .before .if2 .left))
 
 -- src/lib.rt:41:38
 cast-t17 : tie.Need-cast-t17
 cast-t17 c =
     let run = c .before .before .before .before .before .before .before in
     let fit = run .before .before .before in
-    omega (arith, few-ran _ _ (fit .before .before .before .pre) (fit .fit .ensures .yes (not-false _ (run .before .before .if1 .left))) _ _ _ (run .run .ensures))
+    omega (arith, few-ran _ _ (fit .before .before .before .pre) (fit .fit .ensures .yes (not-false _ (run .before .before .if1 .left)) .within) _ _ _ (run .run .ensures))
 
 -- src/lib.rt:28:1
 same-length : tie.Need-same-length
@@ -84,9 +83,9 @@ returns-3 c =
     let fit = run .before .before .before in
     let F = fit .fit .ensures .yes (not-false _ (run .before .before .if1 .left)) in
     let L = fit .before .before .before .pre in
-    replay-done _ _ _ _ _ F (omega (arith, c .before .before .before .before .before .if2 .left, log-ran _ _ L F _ _ _ (run .run .ensures)))
+    replay-done _ _ _ _ _ F (omega (arith, c .before .before .before .before .before .if2 .left, log-ran _ _ L (F .within) _ _ _ (run .run .ensures)))
     (λ i. record { refusal = 0; switches = run .run .ensures .switches i })
-    (c .before .before .copy .ensures ∙ ap (sets (fit .before .before .before .args .log .now) 0) (words-ran _ _ L F _ _ _ (run .run .ensures) (length-replicate {A = ℕ} 384 0)))
+    (c .before .before .copy .ensures ∙ ap (sets (fit .before .before .before .args .log .now) 0) (words-ran _ _ L (F .within) _ _ _ (run .run .ensures) (length-replicate {A = ℕ} 384 0)))
 
 pub replay-set-spec : {M : Type 1} → statement M
 replay-set-spec =

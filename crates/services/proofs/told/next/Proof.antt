@@ -1,0 +1,29 @@
+use Rattle.kernel.specs.Words.{setOf}
+use Prim.Native.Nat.{max}
+use mathlib.Core.Path.{_≡_}
+use native.Mathlib.Omega.{arith}
+use borrow.Author.Needs.{needs}
+use Rattle.services.proofs.told.next.Statement.{statement}
+use Rattle.services.proofs.told.next.Tie as tie
+use Rattle.services.proofs.told.next.Reads as reads
+use Rattle.services.proofs.told.next.Lts as lts
+use Rattle.kernel.proofs.jobs.release.Reads as release-reads
+use Rattle.services.proofs.told.larger.Reads as larger-reads
+
+-- src/told.rt:60:29
+release-requires : tie.Need-release-requires
+release-requires c κs = search needs
+
+-- src/told.rt:60:16
+larger-requires : tie.Need-larger-requires
+larger-requires c κs = search needs
+
+-- src/told.rt:53:1
+returns : tie.Need-returns
+returns c =
+    let start = c .before .before in
+    let e : c .larger .result ≡ max (start .args .tick) (setOf (start .args .set .now) .release (start .args .job)) = omega (arith, c .larger .ensures, c .before .release .ensures) in
+    λ z. record { job = start .args .job; segment = start .args .segment; since = e z }
+
+pub next-spec : {M : Type 1} → statement M
+next-spec = tie.close (tie.spec release-requires larger-requires returns)
