@@ -3,5 +3,4 @@ pub mod Jobs
 pub mod Log
 pub mod Words
 pub mod Code
-pub mod Samples
 pub mod Laws

@@ -13,4 +13,3 @@ pub mod First
 pub mod Right
 pub mod Depth
 pub mod Words
-pub mod Samples

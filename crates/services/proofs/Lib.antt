@@ -9,3 +9,4 @@ pub mod Telling
 pub mod Entries
 pub mod Alike
 pub mod Verdicts
+pub mod Grew

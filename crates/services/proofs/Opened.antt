@@ -8,7 +8,7 @@ use mathlib.Core.List.{List}
 use Rattle.table.specs.Refusal.{refusal}
 use Rattle.kernel.specs.Laws.Tests.{split}
 use Rattle.kernel.specs.Laws.Ending.{lastEnd}
-use Rattle.services.specs.Open.{jobsIn, Runnable, Answered, Ready, Opens}
+use Rattle.services.specs.Open.{jobsIn, Runnable, Answered, Ready, Opens, InFrame}
 use Rattle.services.specs.declared.open.Opened.{Opened}
 use Rattle.services.proofs.Opening.{late-test, in-time}
 
@@ -46,3 +46,7 @@ module _ (bytes : List ℕ) (r : Opened) (O : Opens bytes r) where
       late = λ e l. absurd (opened-runnable .timely l);
       runnable = λ R. s;
     }
+
+-- its words
+pub opened-in-frame : (bytes : List ℕ) (r : Opened) → Ready bytes r → InFrame (r .set)
+opened-in-frame bytes r R = record { loaded = R .laid .loaded; in-frame = rw (R .laid .set) (R .in-frame) }

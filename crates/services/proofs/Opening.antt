@@ -12,6 +12,7 @@ use Rattle.table.proofs.Sound.{sound-outcome}
 use Rattle.table.specs.Sound.{Sound}
 use Rattle.kernel.specs.Rules.{JobSet, SomeRunEndsLate}
 use Rattle.kernel.specs.Words.{setOf}
+use Rattle.kernel.specs.Laws.Tests.{split}
 use Rattle.kernel.specs.Laws.Ending.{lastEnd, late-iff}
 use Rattle.jobset.specs.Load.{Laid}
 use Rattle.jobset.specs.Laws.Accepted.{accepted-lawful}
@@ -31,6 +32,11 @@ module _ (bytes : List ℕ) where
 
   pub in-time : refusal bytes .number ≡ 0 → lastEnd (jobsIn bytes) ≤ jobsIn bytes .frame → SomeRunEndsLate (jobsIn bytes) → ⊥
   in-time e h s = let q = late-iff (jobsIn bytes) (accepted-lawful (tableOf bytes) (whole-sound e)) .1 s in omega arith
+
+  pub runs-in-frame : Runnable bytes → lastEnd (jobsIn bytes) ≤ jobsIn bytes .frame
+  runs-in-frame R = split (jobsIn bytes .frame) (lastEnd (jobsIn bytes))
+      (λ (h : jobsIn bytes .frame < lastEnd (jobsIn bytes)). absurd (R .timely (late-test (R .whole) h)))
+      (λ (h : lastEnd (jobsIn bytes) ≤ jobsIn bytes .frame). h)
 
   module _ {Declined : ℕ → Type 0} {Said : Type 0} where
     -- 1 to 4

@@ -14,12 +14,11 @@ use Rattle.kernel.specs.Laws.Tests.{split}
 use Rattle.kernel.specs.Laws.Range.{run-same}
 use Rattle.kernel.specs.Laws.Ending.{all-in-frame}
 use Rattle.kernel.specs.Laws.Times.{entryOf, logOf, timesOf, log-tells}
-use Rattle.services.specs.Open.{Ready}
+use Rattle.services.specs.Open.{InFrame}
 use Rattle.services.specs.Times.{Tells}
 use Rattle.services.specs.Replay.{logIn}
 use Rattle.services.specs.Told.{entriesWords, TellsTimes}
-use Rattle.services.specs.Judge.{Gives, segmentsIn, Judges, JudgeAsk, RunsTo}
-use Rattle.services.specs.declared.open.Opened.{Opened}
+use Rattle.services.specs.Judge.{Gives, segmentsIn, Judges, RunsTo}
 use Rattle.services.specs.declared.Judged.{Judged as Answer}
 use Rattle.services.proofs.Credits.{place-before}
 
@@ -52,7 +51,7 @@ place-of J (suc n) at h = split at (sum (J .segments) n)
     record { job = P .job; segment = P .segment; inside = omega (arith, P .inside); real = P .real; here = P .here })
     (λ (q : sum (J .segments) n ≤ at). record { job = n; segment = at - sum (J .segments) n; inside = omega arith; real = omega arith; here = omega arith })
 
-module _ (w log told : List ℕ) (A : JudgeAsk w) (T : TellsTimes w log told) where
+module _ (w log told : List ℕ) (A : InFrame w) (T : TellsTimes w log told) where
   abbrev J : JobSet
   J = setOf w
 
@@ -122,7 +121,3 @@ module _ (w log told : List ℕ) (A : JudgeAsk w) (T : TellsTimes w log told) wh
 
 pub judge-small : (J : JobSet) (log before : List ℕ) → length before < segmentsIn J → Judges log before before (record { refusal = 7; accepted = false }) J
 judge-small J log before h = record { small = λ q. (refl, refl); foreign = λ q. absurd (omega arith); done = λ q. absurd (omega arith) }
-
--- the words of a table that was opened
-pub judge-asks : (bytes : List ℕ) (r : Opened) → Ready bytes r → JudgeAsk (r .set)
-judge-asks bytes r R = record { loaded = R .laid .loaded; in-frame = rw (R .laid .set) (R .in-frame) }

@@ -8,8 +8,7 @@ use lib.Seq.{sets}
 use Rattle.kernel.specs.Rules.{JobSet, Within}
 use Rattle.kernel.specs.Jobs.{sum}
 use Rattle.kernel.specs.Log.{timeIn}
-use Rattle.kernel.specs.Words.{setOf, Loaded}
-use Rattle.kernel.specs.Laws.Ending.{lastEnd}
+use Rattle.kernel.specs.Words.{setOf}
 use Rattle.services.specs.Open.{jobsIn, Answered}
 use Rattle.services.specs.Times.{Fit}
 use Rattle.services.specs.Replay.{logIn}
@@ -43,11 +42,6 @@ abbrev pub JudgePromise : (bytes log before after : List ℕ) → Answer → Typ
 JudgePromise bytes log before after r = Answered bytes (Declined log before after r) (Judges log before after r (jobsIn bytes))
 
 -- ---- inside
-
--- a job set in whose frame all runs end
-pub record JudgeAsk (w : List ℕ) : Type 0 where
-  pub loaded : Loaded w
-  pub in-frame : lastEnd (setOf w) ≤ setOf w .frame
 
 -- the times, of which there may be more than segments, are within their bounds, and the run with them has this log
 pub record RunsTo (w times log : List ℕ) : Type 0 where

@@ -3,3 +3,4 @@ pub mod Times
 pub mod Replay
 pub mod Told
 pub mod Judge
+pub mod Tree

@@ -1,8 +1,11 @@
 // The services that stand on a table of bytes. Arbitrary bytes and numbers are answered, with a refusal's number where one applies.
 ghost use Rattle.kernel.specs.Words.{setOf, Loaded};
+ghost use Rattle.services.specs.Open.{InFrame};
 ghost use Rattle.services.specs.Times.{Tells};
 ghost use Rattle.services.specs.Replay.{Replays, ReplayPromise};
-ghost use Rattle.services.specs.Judge.{JudgeAsk, Judges, JudgePromise, RunsTo};
+ghost use Rattle.services.specs.Tree.{Trees, TreePromise};
+ghost use Rattle.services.specs.Judge.{Judges, JudgePromise, RunsTo};
+use walk::Found;
 
 mod copy;
 mod ending;
@@ -78,7 +81,7 @@ pub fn judge(table: &[u8], log: &[u32], times: &mut [u32]) -> Judged
 }
 
 fn judge_set(set: &[u32; 322], log: &[u32], times: &mut [u32]) -> Judged
-    requires { ⌜ JudgeAsk (now set) ⌝ }
+    requires { ⌜ InFrame (now set) ⌝ }
     ensures { λ r. ⌜ Judges (now (log .entry)) (now (times .entry)) (now (times .exit)) r (setOf (now (set .entry))) ⌝ }
 {
     let count = times::segments(set);
@@ -114,4 +117,45 @@ fn replays_to(set: &[u32; 322], times: &[u32; 64], log: &[u32]) -> bool
     let mut words = [0u32; 384];
     let switches = kernel::run(set, times, &mut words);
     copy::same(log, &words, 4 * switches)
+}
+
+// How many nodes and orders the tree has.
+pub struct Drawn {
+    pub refusal: u32,
+    pub nodes: u32,
+    pub orders: u32,
+}
+
+// The tree of all orders, eight words a node.
+pub fn tree(table: &[u8], nodes: &mut [u32]) -> Drawn
+    ensures { λ r. ⌜ TreePromise (now (table .entry)) (now (nodes .entry)) (now (nodes .exit)) r ⌝ }
+{
+    let opened = open::open(table);
+    if opened.refusal != 0 {
+        return Drawn {
+            refusal: opened.refusal,
+            nodes: 0,
+            orders: 0,
+        };
+    }
+    let set = opened.set;
+    tree_set(&set, nodes)
+}
+
+fn tree_set(set: &[u32; 322], nodes: &mut [u32]) -> Drawn
+    requires { ⌜ InFrame (now set) ⌝ }
+    ensures { λ r. ⌜ Trees (now (nodes .entry)) (now (nodes .exit)) r (setOf (now (set .entry))) ⌝ }
+{
+    match walk::tree(set, nodes) {
+        Found::Whole(count, orders) => Drawn {
+            refusal: 0,
+            nodes: count,
+            orders,
+        },
+        Found::TooLarge => Drawn {
+            refusal: 7,
+            nodes: 0,
+            orders: 0,
+        },
+    }
 }

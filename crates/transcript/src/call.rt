@@ -33,10 +33,13 @@ fn untouched(words: &[u32], n: usize) -> bool {
     true
 }
 
-// A refusal's number, the first n words of a row, and whether the others are as they were.
-fn answer(refusal: u32, words: &[u32], n: usize) {
+fn begin(refusal: u32) {
     io::write_all(1, b"-> ");
     show::number(refusal as u64);
+}
+
+// The first n words of a row, and whether the others are as they were.
+fn finish(words: &[u32], n: usize) {
     show::words(words, n);
     if !untouched(words, n) {
         io::write_all(1, b" touched");
@@ -48,7 +51,8 @@ fn answer(refusal: u32, words: &[u32], n: usize) {
 fn replay(table: &[u8], times: &[u32], log: &mut [u32]) {
     let replayed = services::replay(table, times, log);
     let switches = replayed.switches as usize;
-    answer(replayed.refusal, log, 4 * switches);
+    begin(replayed.refusal);
+    finish(log, 4 * switches);
 }
 
 // judge LOG: the refusal and the times.
@@ -58,7 +62,20 @@ fn judge(table: &[u8], log: &[u32], times: &mut [u32]) {
     if judged.accepted {
         count = Table::read(table).table.segments;
     }
-    answer(judged.refusal, times, count);
+    begin(judged.refusal);
+    finish(times, count);
+}
+
+// tree: the refusal, how many nodes and orders there are, and the nodes.
+fn tree(table: &[u8], words: &mut [u32]) {
+    let drawn = services::tree(table, words);
+    let nodes = drawn.nodes as usize;
+    begin(drawn.refusal);
+    show::blank();
+    show::number(drawn.nodes as u64);
+    show::blank();
+    show::number(drawn.orders as u64);
+    finish(words, 8 * nodes);
 }
 
 pub fn service(line: &[u8], table: &[u8], room: usize, numbers: &mut [u32], words: &mut [u32]) {
@@ -69,5 +86,7 @@ pub fn service(line: &[u8], table: &[u8], room: usize, numbers: &mut [u32], word
         replay(table, text::first_words(numbers, n), &mut words[0..all]);
     } else if text::starts(line, b"judge") {
         judge(table, text::first_words(numbers, n), &mut words[0..all]);
+    } else if text::starts(line, b"tree") {
+        tree(table, &mut words[0..all]);
     }
 }

@@ -6,7 +6,7 @@ pub fn number(n: u64) {
     io::print_decimal(1, n);
 }
 
-fn blank() {
+pub fn blank() {
     io::write_all(1, b" ");
 }
 

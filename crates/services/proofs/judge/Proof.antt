@@ -2,8 +2,7 @@ use mathlib.Core.Path.{_≡_, refl, sym, subst}
 use Rattle.kernel.specs.Rules.{JobSet}
 use Rattle.kernel.specs.Words.{setOf}
 use Rattle.services.specs.Judge.{Judges}
-use Rattle.services.proofs.Opened.{opened-refused, opened-ready, opened-answered}
-use Rattle.services.proofs.Verdicts.{judge-asks}
+use Rattle.services.proofs.Opened.{opened-refused, opened-ready, opened-answered, opened-in-frame}
 use borrow.Author.Needs.{needs}
 use Rattle.services.proofs.judge.Statement.{statement}
 use Rattle.services.proofs.judge.Tie as tie
@@ -25,7 +24,7 @@ returns c =
 judge-set-requires : tie.Need-judge-set-requires
 judge-set-requires c κs =
     let opened = c .before .before .before .before .before in
-    judge-asks _ (opened .«open» .result) (opened-ready _ (opened .«open» .result) (opened .«open» .ensures) (c .before .before .before .if1 .left))
+    opened-in-frame _ (opened .«open» .result) (opened-ready _ (opened .«open» .result) (opened .«open» .ensures) (c .before .before .before .if1 .left))
 
 -- src/lib.rt:66:1
 same-length : tie.Need-same-length

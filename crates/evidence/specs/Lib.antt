@@ -1,0 +1,3 @@
+pub mod Samples
+pub mod Says
+pub mod Agree

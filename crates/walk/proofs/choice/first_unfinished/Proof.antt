@@ -1,0 +1,77 @@
+use Prim.Native.Nat.{ℕ, _+_, _-_, _*_, _≤_, _<_}
+use native.Mathlib.Omega.{arith}
+use mathlib.Core.Path.{_≡_}
+use lib.ListN.{getD}
+use borrow.Author.Needs.{needs}
+use Rattle.kernel.specs.Laws.Tests.{below}
+use Rattle.kernel.specs.Words.{setOf}
+use Rattle.walk.specs.Laws.Keyed.{opens}
+use Rattle.walk.proofs.choice.first_unfinished.Statement.{statement}
+use Rattle.walk.proofs.choice.first_unfinished.Tie as tie
+
+abbrev Inv-loop : tie.InvT-loop
+Inv-loop set state n i₀ i = (i ≤ n) × (n ≡ setOf set .jobs) × ((j : ℕ) → j < i → getD state (4 * j) 0 ≡ 0)
+
+abbrev μ-loop : tie.MeasureT-loop
+μ-loop set state n i₀ i = n - i
+
+jobs-requires : tie.Need-jobs-requires Inv-loop μ-loop
+jobs-requires c κs = search needs
+
+loop-holds : tie.Need-loop-holds Inv-loop μ-loop
+loop-holds c = search needs
+
+mul-word-at : tie.Need-mul-word-at Inv-loop μ-loop
+mul-word-at c = search needs
+
+word-at-requires : tie.Need-word-at-requires Inv-loop μ-loop
+word-at-requires c κs = search needs
+
+returns : tie.Need-returns Inv-loop μ-loop
+returns c =
+    let at = c .before .before .before .before in
+    let entry = at .before .before in
+    let inv = at .loop .inv in
+    opens (entry .args .set .now) (entry .args .state .now) (entry .pre) (at .loop .i) (omega (arith, inv .0, inv .1)) (inv .2)
+    (λ h. rw (c .before .word-at .ensures) at (c .if1 .taken))
+
+add-i : tie.Need-add-i Inv-loop μ-loop
+add-i c = search needs
+
+loop-less : tie.Need-loop-less Inv-loop μ-loop
+loop-less c = search needs
+
+loop-again : tie.Need-loop-again Inv-loop μ-loop
+loop-again c =
+    let at = c .before .before .before .before in
+    let inv = at .loop .inv in
+    let i = at .loop .i in (
+      omega (arith, c .before .before .before .loop-test .taken),
+      inv .1,
+      λ j (h : j < i + 1). below (λ j. getD (at .before .before .args .state .now) (4 * j) 0 ≡ 0) i (inv .2)
+          (omega (arith, c .if1 .left, c .before .word-at .ensures)) j (omega arith),
+    )
+
+returns-2 : tie.Need-returns-2 Inv-loop μ-loop
+returns-2 c =
+    let at = c .before in
+    let entry = at .before .before in
+    let inv = at .loop .inv in
+    opens (entry .args .set .now) (entry .args .state .now) (entry .pre) _ (omega (arith, inv .1)) (λ j (h : j < _). inv .2 j (omega (arith, c .loop-test .left)))
+    (λ h. absurd (omega (arith, inv .1)))
+
+pub first-unfinished-spec : {M : Type 1} → statement M
+first-unfinished-spec =
+    tie.close
+    (tie.spec
+    Inv-loop
+    μ-loop
+    jobs-requires
+    loop-holds
+    mul-word-at
+    word-at-requires
+    returns
+    add-i
+    loop-less
+    loop-again
+    returns-2)

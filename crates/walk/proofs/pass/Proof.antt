@@ -1,0 +1,38 @@
+use borrow.Author.Needs.{needs}
+use Rattle.walk.specs.Laws.Root.{root-ask, root-passed}
+use Rattle.walk.proofs.pass.Statement.{statement}
+use Rattle.walk.proofs.pass.Tie as tie
+
+fresh-requires : tie.Need-fresh-requires
+fresh-requires c κs = search needs
+
+first-requires : tie.Need-first-requires
+first-requires c κs = search needs
+
+enough-requires : tie.Need-enough-requires
+enough-requires c κs = search needs
+
+hang-requires : tie.Need-hang-requires
+hang-requires c κs =
+    let first = c .before .before .before in
+    let fresh = first .before .before in
+    let entry = fresh .before .before in
+    root-ask (entry .args .set .now) (fresh .fresh .result) (entry .pre .loaded) (fresh .fresh .ensures) (first .first .result) (first .first .ensures)
+    _ _ (c .enough .ensures) (entry .pre .most)
+
+same-length : tie.Need-same-length
+same-length c = search needs
+
+returns : tie.Need-returns
+returns c =
+    let hung = c .before .before in
+    let first = hung .before .before .before .before in
+    let fresh = first .before .before in
+    let entry = fresh .before .before in
+    root-passed (entry .args .set .now) (fresh .fresh .result) (entry .pre .loaded) (fresh .fresh .ensures) (first .first .result) (first .first .ensures)
+    _ _ _ _ _ _ (hung .before .enough .ensures) (hung .hang .ensures)
+
+pub pass-spec : {M : Type 1} → statement M
+pass-spec =
+    tie.close
+    (tie.spec fresh-requires first-requires enough-requires hang-requires same-length returns)

@@ -1,0 +1,21 @@
+use borrow.Author.Needs.{needs}
+use Rattle.walk.specs.Laws.Spanned.{begins}
+use Rattle.walk.proofs.switches.first.Statement.{statement}
+use Rattle.walk.proofs.switches.first.Tie as tie
+
+after-requires : tie.Need-after-requires
+after-requires c κs = search needs
+
+release-requires : tie.Need-release-requires
+release-requires c κs = search needs
+
+to-job-requires : tie.Need-to-job-requires
+to-job-requires c κs = search needs
+
+returns : tie.Need-returns
+returns c =
+    let entry = c .before .before .before in
+    begins (entry .args .set .now) (entry .args .state .now) _ _ _ (c .before .before .after .ensures) (c .before .release .ensures) (c .to-job .ensures)
+
+pub first-spec : {M : Type 1} → statement M
+first-spec = tie.close (tie.spec after-requires release-requires to-job-requires returns)

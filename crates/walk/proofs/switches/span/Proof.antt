@@ -1,0 +1,42 @@
+use borrow.Author.Needs.{needs}
+use Rattle.walk.specs.Laws.Spanned.{some-end, spanned}
+use Rattle.walk.proofs.switches.span.Statement.{statement}
+use Rattle.walk.proofs.switches.span.Tie as tie
+
+after-requires : tie.Need-after-requires
+after-requires c κs = search needs
+
+weight-requires : tie.Need-weight-requires
+weight-requires c κs = search needs
+
+add-above : tie.Need-add-above
+add-above c = search needs
+
+above-requires : tie.Need-above-requires
+above-requires c κs = search needs
+
+sub-to-job : tie.Need-sub-to-job
+sub-to-job c =
+    let entry = c .before .before .before in
+    some-end (entry .args .set .now) (entry .args .state .now) _ _ _ _ (entry .pre) (c .above .ensures)
+
+to-job-requires : tie.Need-to-job-requires
+to-job-requires c κs = search needs
+
+returns : tie.Need-returns
+returns c =
+    let entry = c .before .before .before .before in
+    spanned (entry .args .set .now) (entry .args .state .now) _ _ _ _ _ _ _ (entry .pre .loaded) (c .before .before .before .after .ensures)
+    (c .before .before .weight .ensures) (c .before .above .ensures) (c .to-job .ensures)
+
+pub span-spec : {M : Type 1} → statement M
+span-spec =
+    tie.close
+    (tie.spec
+    after-requires
+    weight-requires
+    add-above
+    above-requires
+    sub-to-job
+    to-job-requires
+    returns)

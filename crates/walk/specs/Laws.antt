@@ -1,0 +1,11 @@
+pub mod Standing
+pub mod Keyed
+pub mod Spanned
+pub mod Moves
+pub mod Ticks
+pub mod Twigs
+pub mod Forests
+pub mod Writing
+pub mod Ends
+pub mod Root
+pub mod Whole

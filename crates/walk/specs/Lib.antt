@@ -1,0 +1,7 @@
+pub mod State
+pub mod Choice
+pub mod Switches
+pub mod Nodes
+pub mod Descent
+pub mod Tree
+pub mod Laws

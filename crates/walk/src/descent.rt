@@ -1,0 +1,162 @@
+// Recursive descent from each switch to whatever may follow it. The falling number is `depth`: how many switches may still follow.
+ghost use Rattle.walk.specs.Descent.{HangAsk, Hung, GrowAsk, Grown, LeaveAsk, Left, CutAsk, CutOff};
+use crate::choice;
+use crate::nodes;
+use crate::state;
+use crate::switches;
+use crate::switches::Switch;
+use kernel::jobs;
+
+// Nodes, and those of them that end a run.
+pub struct Count {
+    pub nodes: u32,
+    pub orders: u32,
+}
+
+// The switch x as the next node, with all that may follow it. Nodes from number `cap` on are left out.
+pub fn hang(
+    set: &[u32; 322],
+    state: &mut [u32; 128],
+    words: &mut [u32],
+    x: Switch,
+    seen: Count,
+    parent: u32,
+    depth: usize,
+    cap: u32,
+) -> Count
+    requires { ⌜ HangAsk (now set) (now state) x seen depth cap ⌝ }
+    ensures { λ r. ⌜ Hung (now (set .entry)) (now (state .entry)) (now (state .exit)) x parent depth cap (now (words .entry)) seen (now (words .exit)) r ⌝ }
+{
+    let at = seen.nodes;
+    if cap <= at {
+        return seen;
+    }
+    let d = x.job;
+    if jobs::jobs(set) <= d {
+        nodes::put(words, at, parent, x, 4294967295, 4294967295);
+        return Count {
+            nodes: at + 1,
+            orders: seen.orders + 1,
+        };
+    }
+    let was = state::of_job(state, d);
+    nodes::put(words, at, parent, x, d as u32, was.segment);
+    state::put(state, d, state::resumed(set, d, was));
+    let more = Count {
+        nodes: at + 1,
+        orders: seen.orders,
+    };
+    let all = grow(set, state, words, d, x.from, x.to, more, at, depth, cap);
+    state::put(state, d, was);
+    all
+}
+
+// All that may follow while job j runs, which starts at a tick from `from` to `to`.
+fn grow(
+    set: &[u32; 322],
+    state: &mut [u32; 128],
+    words: &mut [u32],
+    j: usize,
+    from: u32,
+    to: u32,
+    seen: Count,
+    parent: u32,
+    depth: usize,
+    cap: u32,
+) -> Count
+    requires { ⌜ GrowAsk (now set) (now state) j from to seen depth cap ⌝ }
+    ensures { λ r. ⌜ Grown (now (set .entry)) (now (state .entry)) (now (state .exit)) j from to parent depth cap (now (words .entry)) seen (now (words .exit)) r ⌝ }
+{
+    if depth == 0 {
+        return seen;
+    }
+    let was = state::of_job(state, j);
+    let early = from + was.least;
+    let late = to + was.most;
+    let latest = choice::above(set, state, from, choice::weight(set, state, j), late);
+    let left = leave(
+        set,
+        state,
+        words,
+        j,
+        early,
+        latest,
+        seen,
+        parent,
+        depth,
+        cap,
+    );
+    if late <= latest {
+        return left;
+    }
+    cut_off(
+        set,
+        state,
+        words,
+        j,
+        early,
+        late,
+        latest,
+        left,
+        parent,
+        depth,
+        cap,
+    )
+}
+
+// Job j leaves its segment by END or STEP at a tick from `early` to `latest`, and all that may follow.
+fn leave(
+    set: &[u32; 322],
+    state: &mut [u32; 128],
+    words: &mut [u32],
+    j: usize,
+    early: u32,
+    latest: u32,
+    seen: Count,
+    parent: u32,
+    depth: usize,
+    cap: u32,
+) -> Count
+    requires { ⌜ LeaveAsk (now set) (now state) j early latest seen depth cap ⌝ }
+    ensures { λ r. ⌜ Left (now (set .entry)) (now (state .entry)) (now (state .exit)) j early latest parent depth cap (now (words .entry)) seen (now (words .exit)) r ⌝ }
+{
+    let was = state::of_job(state, j);
+    let k = was.segment + 1;
+    let kind = switches::leave_kind(set, j, k);
+    state::put(state, j, state::begun(set, j, k));
+    let mut count = seen;
+    let mut t = early;
+    while t <= latest {
+        let x = switches::span(set, state, kind, t, latest);
+        count = hang(set, state, words, x, count, parent, depth - 1, cap);
+        t = x.last + 1;
+    }
+    state::put(state, j, was);
+    count
+}
+
+// Job j is cut at tick `latest`, and all that may follow.
+fn cut_off(
+    set: &[u32; 322],
+    state: &mut [u32; 128],
+    words: &mut [u32],
+    j: usize,
+    early: u32,
+    late: u32,
+    latest: u32,
+    seen: Count,
+    parent: u32,
+    depth: usize,
+    cap: u32,
+) -> Count
+    requires { ⌜ CutAsk (now set) (now state) j early late latest seen depth cap ⌝ }
+    ensures { λ r. ⌜ CutOff (now (set .entry)) (now (state .entry)) (now (state .exit)) j early late latest parent depth cap (now (words .entry)) seen (now (words .exit)) r ⌝ }
+{
+    let was = state::of_job(state, j);
+    let cut = state::cut(was, switches::least_left(early, latest), late - latest);
+    state::put(state, j, cut);
+    let x = switches::cut(set, state, latest);
+    let all = hang(set, state, words, x, seen, parent, depth - 1, cap);
+    state::put(state, j, was);
+    all
+}
