@@ -4,15 +4,17 @@ use native.Mathlib.Nat.{add-sub-cancel-left}
 use native.Mathlib.Omega.{arith}
 use mathlib.Core.Path.{_≡_, refl, sym, _∙_, ap}
 use mathlib.Core.List.{List, [], _∷_, map}
-use mathlib.Core.Bool.{true, false}
+use mathlib.Core.Bool.{Bool, true, false, _&&_}
 use lib.ListN.{length, getD, drop, length-drop}
-use borrow.Author.Tests.{eq-eqb, ne-eqb, lt-ltb, le-ltb}
+use lib.Dec.{ltb, eqb}
+use borrow.Author.Tests.{eq-eqb, ne-eqb, lt-ltb, le-ltb, eqb-true, ltb-true}
 use denote.Ref.{RefT}
 use borrow.Rule.Slice.PartAt.{slPart}
 use Rattle.table.specs.Records.{Placed, recordAt, sizeOf, due, lacking, placeAfter, mayEnd, readingOf}
 use Rattle.table.specs.Table.{JobEntry, jobsFrom, tableFrom, recorded}
 use Rattle.table.specs.Refusal.{refusal, outcomeOf}
 use Rattle.table.specs.Part.{jobsIn, has, startOf, lengthOf, partOf, Lies}
+use Rattle.table.specs.declared.Extent.{Extent}
 use Rattle.table.specs.declared.Outcome.{Outcome}
 use Rattle.table.specs.declared.Table.{Table}
 use Rattle.table.specs.declared.records.Place.{Place}
@@ -73,7 +75,7 @@ inside : (s : List ℕ) → readingOf s .whole ≡ true → Ends (length s) (rea
 unfolding readingOf Inside Ends
 inside s e i j h = omega (arith, each Inside inside-base inside-step (length s) First 0 s e .1 i j h)
 
--- ---- for `Table::part`
+-- ---- for `Table::extent` and `Table::part`
 
 module _ (s : List ℕ) (o : Outcome) (e : o ≡ outcomeOf s) where
   jobs-is : o .refusal ≡ 0 → o .table .jobs ≡ length (jobsIn s)
@@ -102,32 +104,39 @@ module _ (s : List ℕ) (o : Outcome) (e : o ≡ outcomeOf s) where
     unfolding has
     has-it = rw (eq-eqb (refusal s .number) 0 zero-refusal, lt-ltb j (length (jobsIn s)) here)
 
-    start-is : getD (o .table .mark) j 0 ≡ startOf s j
+    pub start-is : getD (o .table .mark) j 0 ≡ startOf s j
     unfolding startOf recorded tableFrom
     start-is = rw (table-is s o e z, has-it) (getD-padded 32 (map (λ (e : JobEntry). e .mark) (jobsIn s)) j small-job)
 
-    length-is : 8 + 12 * getD (o .table .count) j 0 ≡ lengthOf s j
+    pub length-is : 8 + 12 * getD (o .table .count) j 0 ≡ lengthOf s j
     unfolding lengthOf recorded tableFrom
     length-is = rw (table-is s o e z, has-it, getD-padded 32 (map (λ (e : JobEntry). e .count) (jobsIn s)) j small-job)
 
-    ends-within : startOf s j + lengthOf s j ≤ length s
-    unfolding startOf lengthOf Ends marks counts
-    ends-within = rw has-it (inside s (accepted s zero-refusal .whole) 0 j here)
+both-true : (a b : Bool) → (a && b) ≡ true → (a ≡ true) × (b ≡ true)
+both-true true b e = (refl, e)
+both-true false b e = absurd (let z : _≡_ {A = ℕ} 0 1 = cc in omega arith)
 
-    -- what the code needs to know of the part
-    pub record JobPart : Type 0 where
-      pub start : getD (o .table .mark) j 0 ≡ startOf s j
-      pub size : 8 + 12 * getD (o .table .count) j 0 ≡ lengthOf s j
-      pub fits : startOf s j + lengthOf s j ≤ length s
+-- a job that is there ends within the bytes
+has-fits : (s : List ℕ) (j : ℕ) → has s j ≡ true → startOf s j + lengthOf s j ≤ length s
+unfolding has startOf lengthOf Ends marks counts
+has-fits s j e =
+    let (z, l) = both-true (eqb (refusal s .number) 0) (ltb j (length (jobsIn s))) e in
+    rw e (inside s (accepted s (eqb-true (refusal s .number) 0 z) .whole) 0 j (ltb-true j (length (jobsIn s)) l))
 
-    pub the-job : JobPart
-    the-job = record { start = start-is; size = length-is; fits = ends-within }
-
--- the empty part at the end, and the job's part
-pub at-end : (x r : RefT (List ℕ)) (j : ℕ) → has (x .now) j ≡ false → Lies x r (length (x .now)) [] → Lies x r (startOf (x .now) j) (partOf (x .now) j)
+-- nothing, at the end
+pub none-there : (s : List ℕ) (j : ℕ) → has s j ≡ false → _≡_ {A = Extent} (record { start = length s; length = 0 }) (record { start = startOf s j; length = lengthOf s j })
 unfolding startOf lengthOf
-at-end x r j h l = rw h l
+none-there s j h = rw h
 
+-- what lies there ends within the bytes
+pub there-fits : (s : List ℕ) (j : ℕ) → startOf s j + lengthOf s j ≤ length s
+there-fits s j = go (has s j) refl
+  where
+    go : (b : Bool) → has s j ≡ b → startOf s j + lengthOf s j ≤ length s
+    go true e = has-fits s j e
+    go false e = unfold startOf lengthOf in rw e (omega arith)
+
+-- the part that lies there
 pub at-job : (x : RefT (List ℕ)) (a n j : ℕ) (γ : ℕ) → a ≡ startOf (x .now) j → n ≡ lengthOf (x .now) j
     → Lies x (slPart x (a + x .ptr .1) a (a + n) γ) (startOf (x .now) j) (partOf (x .now) j)
 at-job x a n j γ p q = record {

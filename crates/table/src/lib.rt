@@ -2,10 +2,9 @@
 ghost use mathlib.Core.Path.{_≡_};
 ghost use mathlib.Core.List.{List, []};
 ghost use Prim.Native.Nat.{_+_, _*_, _<_};
-ghost use lib.ListN.{length};
 ghost use Rattle.table.specs.Table.{recorded};
 ghost use Rattle.table.specs.Refusal.{answer, outcomeOf};
-ghost use Rattle.table.specs.Part.{Lies, startOf, partOf};
+ghost use Rattle.table.specs.Part.{Lies, startOf, lengthOf, partOf};
 ghost use Rattle.table.specs.Steps.{withFrame, withJob, withSegment, added, knownBy, scanOf, endedAt, answerTo};
 ghost use Rattle.table.specs.Records.{Placed as Rec};
 ghost use Rattle.table.specs.declared.Table.{Table as Tab};
@@ -41,6 +40,12 @@ pub struct Outcome {
     pub refusal: u32,
     pub place: usize,
     pub table: Table,
+}
+
+// Bytes that lie together in a table.
+pub struct Extent {
+    pub start: usize,
+    pub length: usize,
 }
 
 impl Table {
@@ -173,29 +178,36 @@ impl Table {
         8 + 12 * (count as usize)
     }
 
-    // The empty part at the end.
-    fn no_part<'a>(bytes: &'a [u8]) -> &'a [u8]
-        ensures { λ r. ⌜ Lies (bytes .entry) r (length (now (bytes .entry))) [] ⌝ }
+    // Where the records of one job lie: nowhere, at the end, where the table is refused or has no such job.
+    pub fn extent(bytes: &[u8], job: u32) -> Extent
+        ensures { λ r. ⌜ r ≡ record { start = startOf (now (bytes .entry)) job; length = lengthOf (now (bytes .entry)) job } ⌝ }
     {
-        let n = bytes.len();
-        &bytes[n..n]
+        let none = Extent {
+            start: bytes.len(),
+            length: 0,
+        };
+        let outcome = Table::read(bytes);
+        if outcome.refusal != 0 {
+            return none;
+        }
+        let table = outcome.table;
+        let j = job as usize;
+        if table.jobs <= j {
+            return none;
+        }
+        Extent {
+            start: table.mark[j],
+            length: Table::span(table.count[j]),
+        }
     }
 
     // The records of one job, as a part of the table's own bytes: empty and at the end where the table is refused or has no such job.
     pub fn part<'a>(bytes: &'a [u8], job: u32) -> &'a [u8]
         ensures { λ r. ⌜ Lies (bytes .entry) r (startOf (now (bytes .entry)) job) (partOf (now (bytes .entry)) job) ⌝ }
     {
-        let outcome = Table::read(bytes);
-        if outcome.refusal != 0 {
-            return Table::no_part(bytes);
-        }
-        let table = outcome.table;
-        let j = job as usize;
-        if table.jobs <= j {
-            return Table::no_part(bytes);
-        }
-        let start = table.mark[j];
-        let end = start + Table::span(table.count[j]);
+        let extent = Table::extent(bytes, job);
+        let start = extent.start;
+        let end = start + extent.length;
         &bytes[start..end]
     }
 }

@@ -78,6 +78,21 @@ fn tree(table: &[u8], words: &mut [u32]) {
     finish(words, 8 * nodes);
 }
 
+// list: what the listing program prints.
+fn list(table: &[u8], words: &mut [u32], text: &mut [u8]) {
+    let drawn = services::tree(table, words);
+    let length = lines::listing(drawn.refusal, drawn.nodes, drawn.orders, words, text);
+    if length <= text.len() {
+        io::write_all(1, &text[0..length]);
+    }
+}
+
+// With room for 2,048 nodes, as that program has it.
+pub fn list_all(table: &[u8], words: &mut [u32], text: &mut [u8]) {
+    let all = lent(16384, words.len());
+    list(table, &mut words[0..all], text);
+}
+
 pub fn service(line: &[u8], table: &[u8], room: usize, numbers: &mut [u32], words: &mut [u32]) {
     mark(words);
     let n = text::numbers_into(line, numbers);

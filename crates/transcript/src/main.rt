@@ -22,6 +22,7 @@ fn serve(
     setting: Setting,
     numbers: &mut [u32; 400],
     words: &mut [u32; 16400],
+    listing: &mut [u8; 205000],
 ) -> Setting {
     io::write_all(1, line);
     io::write_all(1, b"\n");
@@ -37,6 +38,10 @@ fn serve(
             room,
         };
     }
+    if text::starts(line, b"list") {
+        call::list_all(text::between(table, 0, setting.bytes), words, listing);
+        return setting;
+    }
     call::service(
         line,
         text::between(table, 0, setting.bytes),
@@ -51,6 +56,7 @@ fn serve_all(input: &[u8]) {
     let mut table = [0u8; 5000];
     let mut numbers = [0u32; 400];
     let mut words = [0u32; 16400];
+    let mut listing = [0u8; 205000];
     let mut setting = Setting {
         bytes: 0,
         room: ROOM,
@@ -64,6 +70,7 @@ fn serve_all(input: &[u8]) {
             setting,
             &mut numbers,
             &mut words,
+            &mut listing,
         );
         at = end + 1;
     }

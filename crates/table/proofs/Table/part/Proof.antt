@@ -1,88 +1,51 @@
 use native.Mathlib.Omega.{arith}
-use mathlib.Core.Path.{_∙_}
+use mathlib.Core.Path.{_≡_, ap}
+use Rattle.table.specs.Part.{startOf, lengthOf}
+use Rattle.table.specs.declared.Extent.{Extent}
+use Rattle.table.proofs.Parts.{there-fits, at-job}
 use borrow.Author.Needs.{needs}
-use Rattle.table.proofs.Parts.{at-end, at-job, has-not, has-none, small-job, the-job}
 use Rattle.table.proofs.Table.part.Statement.{statement}
 use Rattle.table.proofs.Table.part.Tie as tie
+use Rattle.table.proofs.Table.part.Reads as reads
+use Rattle.table.proofs.Table.part.Lts as lts
+use Rattle.table.proofs.Table.extent.Reads as extent-reads
 
-read-requires : tie.Need-read-requires
-read-requires c κs = search needs
+-- src/lib.rt:208:13
+extent-requires : tie.Need-extent-requires
+extent-requires c κs = search needs
 
-no-part-requires : tie.Need-no-part-requires
-no-part-requires c κs = search needs
-
-returns : tie.Need-returns
-returns c =
-    let read = c .before .before .before in
-    at-end _ _ _ (has-not _ (read .read .result) (read .read .ensures) (read .before .before .args .job) (c .before .if1 .taken)) (c .no-part .ensures)
-
-no-part-requires-2 : tie.Need-no-part-requires-2
-no-part-requires-2 c κs = search needs
-
-returns-2 : tie.Need-returns-2
-returns-2 c =
-    let read = c .before .before .before .before .before in
-    at-end _ _ _ (has-none _ (read .read .result) (read .read .ensures) (read .before .before .args .job) (c .before .before .before .if1 .left) (c .before .if2 .taken)) (c .no-part2 .ensures)
-
-mul-start : tie.Need-mul-start
-mul-start c = search needs
-
-element-copy-out-start : tie.Need-element-copy-out-start
-element-copy-out-start c =
-    let read = c .before .before .before .before in
-    small-job _ (read .read .result) (read .read .ensures) (read .before .before .args .job) (c .before .before .if1 .left) (c .if2 .left)
-
-element-copy-out-span : tie.Need-element-copy-out-span
-element-copy-out-span c =
-    let read = c .before .before .before .before .before in
-    small-job _ (read .read .result) (read .read .ensures) (read .before .before .args .job) (c .before .before .before .if1 .left) (c .before .if2 .left)
-
-span-requires : tie.Need-span-requires
-span-requires c κs = search needs
-
+-- src/lib.rt:210:19
 add-end : tie.Need-add-end
 add-end c =
-    let live = c .before .before .before in
-    let read = live .before .before .before .before in
-    let job = the-job _ (read .read .result) (read .read .ensures) (read .before .before .args .job) (live .before .before .if1 .left) (live .if2 .left) in
-    omega (arith, job .start, job .size, job .fits, c .span .ensures, read .before .before .good)
+    let start = c .before .before .before in
+    let e = ap (λ (x : Extent). x .start) (c .before .extent .ensures) in
+    let d = ap (λ (x : Extent). x .length) (c .before .extent .ensures) in
+    omega (arith, e, d, there-fits (start .args .bytes .now) (start .args .job), start .good)
 
+-- src/lib.rt:211:9
 sub-result : tie.Need-sub-result
 sub-result c = search needs
 
+-- src/lib.rt:211:9
 part-result-start : tie.Need-part-result-start
 part-result-start c = search needs
 
+-- src/lib.rt:211:9
 part-result-end : tie.Need-part-result-end
 part-result-end c =
-    let live = c .before .before .before in
-    let read = live .before .before .before .before in
-    let job = the-job _ (read .read .result) (read .read .ensures) (read .before .before .args .job) (live .before .before .if1 .left) (live .if2 .left) in
-    omega (arith, job .start, job .size, job .fits, c .span .ensures)
+    let start = c .before .before .before in
+    let e = ap (λ (x : Extent). x .start) (c .before .extent .ensures) in
+    let d = ap (λ (x : Extent). x .length) (c .before .extent .ensures) in
+    omega (arith, e, d, there-fits (start .args .bytes .now) (start .args .job))
 
-returns-3 : tie.Need-returns-3
-returns-3 c =
-    let live = c .before .before .before .before in
-    let read = live .before .before .before .before in
-    let entry = read .before .before in
-    let job = the-job (entry .args .bytes .now) (read .read .result) (read .read .ensures) (entry .args .job) (live .before .before .if1 .left) (live .if2 .left) in
-    at-job (entry .args .bytes) _ _ (entry .args .job) _ (job .start) (c .before .span .ensures ∙ job .size)
+-- src/lib.rt:205:5
+returns : tie.Need-returns
+returns c =
+    let start = c .before .before .before .before in
+    let e = c .before .before .extent .ensures in
+    at-job (start .args .bytes) _ _ (start .args .job) _ (ap (λ (x : Extent). x .start) e) (ap (λ (x : Extent). x .length) e)
 
 pub part-spec : {M : Type 1} → statement M
 part-spec =
     tie.close
-    (tie.spec
-    read-requires
-    no-part-requires
-    returns
-    no-part-requires-2
-    returns-2
-    mul-start
-    element-copy-out-start
-    element-copy-out-span
-    span-requires
-    add-end
-    sub-result
-    part-result-start
-    part-result-end
-    returns-3)
+    (tie.spec extent-requires add-end sub-result part-result-start part-result-end returns)
