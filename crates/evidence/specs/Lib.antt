@@ -1,3 +1,4 @@
 pub mod Samples
 pub mod Says
 pub mod Agree
+pub mod Tight
