@@ -2,7 +2,7 @@
 use Prim.Native.Nat.{ℕ, zero, suc, _+_, _≤_, _<_}
 use native.Mathlib.Omega.{arith}
 use mathlib.Core.Path.{_≡_, refl, sym, ap, _∙_}
-use mathlib.Core.List.{List, [], _∷_, _++_, flatten, flatMap}
+use mathlib.Core.List.{List, [], _∷_, flatten, flatMap}
 use lib.ListN.{getD}
 use Rattle.table.specs.Refusal.{refusal, failing, refusalIn, answer, outcomeOf}
 use Rattle.table.specs.Records.{sized, marked, recordAt, ahead, goesOn, readFrom, readingOf}

@@ -1,7 +1,7 @@
 -- The sample tables of paper 01 that are marked P: tables of bytes, calls, and what every answer must be that keeps the service's promise.
-use Prim.Native.Nat.{ℕ, _+_, _*_, _≤_}
+use Prim.Native.Nat.{ℕ, _≤_}
 use mathlib.Core.Path.{_≡_}
-use mathlib.Core.Bool.{true, false}
+use mathlib.Core.Bool.{false}
 use mathlib.Core.List.{List, [], _∷_, _++_, flatten}
 use lib.ListN.{length}
 use lib.Seq.{sets}

@@ -1,7 +1,7 @@
 -- What a service's promise says of a table, from what is computed of it.
 use Prim.Native.Nat.{ℕ, _*_, _≤_, _<_}
 use native.Mathlib.Omega.{arith}
-use mathlib.Core.Path.{_≡_, sym, ap, _∙_}
+use mathlib.Core.Path.{_≡_, ap, _∙_}
 use mathlib.Core.List.{List, flatten}
 use lib.ListN.{length}
 use lib.Seq.{sets}
@@ -18,9 +18,7 @@ use Rattle.services.specs.Replay.{runIn, logIn}
 use Rattle.services.specs.Judge.{Gives, segmentsIn}
 use Rattle.services.proofs.Opening.{whole-sound, late-test, in-time}
 use Rattle.services.proofs.Grew.{tree-right}
-use Rattle.services.specs.declared.Replayed.{Replayed}
-use Rattle.services.specs.declared.Drawn.{Drawn}
-use Rattle.evidence.specs.Samples.{Call, tree, replay, judge, Answer, refused, grown, logged, Keeps}
+use Rattle.evidence.specs.Samples.{tree, replay, judge, refused, grown, logged, Keeps}
 
 module _ (bytes : List ℕ) where
   abbrev J : JobSet

@@ -1,14 +1,13 @@
 -- A log of entries read off entry by entry.
-use Prim.Native.Nat.{ℕ, suc, _+_, _*_, _/_, _≤_, _<_, min}
+use Prim.Native.Nat.{ℕ, _+_, _*_, _/_, _≤_, _<_}
 use native.Mathlib.Omega.{arith}
 use mathlib.Core.Path.{_≡_, refl, sym, ap, _∙_}
 use mathlib.Core.List.{List, [], _∷_, _++_}
 use lib.ListN.{length, getD, drop, length-drop, replicate, length-replicate}
 use lib.Seq.{getD-drop, drop-drop}
 use Rattle.kernel.specs.Rules.{JobSet}
-use Rattle.kernel.specs.Log.{kindNumber, named, timeIn}
 use Rattle.kernel.specs.Words.{setOf, Loaded}
-use Rattle.kernel.specs.Laws.Times.{Entry, Reading, unread, readOn, readAll, timesOf}
+use Rattle.kernel.specs.Laws.Times.{Entry, Reading, unread, readOn, readAll}
 use Rattle.services.specs.Told.{credited, ranNext, entryWords, entriesWords, TellsTimes}
 use Rattle.services.specs.declared.told.Ran.{Ran}
 use Rattle.services.proofs.Credits.{credit-length}

@@ -1,5 +1,5 @@
 -- Times that fit, as the code looks at them and as the promise says it.
-use Prim.Native.Nat.{ℕ, _+_, _≤_, _<_}
+use Prim.Native.Nat.{ℕ, _+_, _<_}
 use native.Mathlib.Omega.{arith}
 use mathlib.Core.Path.{_≡_, sym, ap}
 use mathlib.Core.Bool.{Bool, true, false, true≢false}
@@ -9,8 +9,8 @@ use Rattle.kernel.specs.Rules.{Within}
 use Rattle.kernel.specs.Jobs.{sum}
 use Rattle.kernel.specs.Log.{timeIn}
 use Rattle.kernel.specs.Code.{timeAt}
-use Rattle.kernel.specs.Words.{setOf, firstOf, Loaded}
-use Rattle.services.specs.Times.{Fit, Tells, FitAt, FitJob, FitJobs}
+use Rattle.kernel.specs.Words.{setOf, Loaded}
+use Rattle.services.specs.Times.{Fit, Tells, FitJobs}
 
 pub tells-yes : (P : Type 0) → P → Tells P true
 tells-yes P p = record { yes = λ e. p; no = λ e q. true≢false e }

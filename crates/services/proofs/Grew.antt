@@ -1,14 +1,11 @@
 -- The tree that the walk writes is the tree of all orders, and the only one.
 use Prim.Native.Nat.{ℕ, _≤_, _<_}
-use native.Mathlib.Omega.{arith}
-use mathlib.Core.Path.{_≡_, refl, sym, ap, subst, _∙_}
+use mathlib.Core.Path.{_≡_, ap, subst, _∙_}
 use mathlib.Core.List.{List, []}
-use lib.ListN.{length}
 use lib.Seq.{sets}
 use Rattle.kernel.specs.Rules.{JobSet}
 use Rattle.kernel.specs.Words.{setOf}
 use Rattle.kernel.specs.Laws.Control.{Lawful}
-use Rattle.kernel.specs.Laws.Tests.{split}
 use Rattle.kernel.specs.Laws.Ending.{lastEnd, all-in-frame}
 use Rattle.kernel.specs.Laws.Steps.{run-steps}
 use Rattle.orders.specs.Orders.{Forest, size, TreeOf}

@@ -7,7 +7,7 @@ use mathlib.Core.Bool.{Bool, true, false, true≢false}
 use mathlib.Core.List.{List, [], _∷_}
 use lib.ListN.{length, getD, drop}
 use Rattle.table.specs.Refusal.{refusal, tableOf}
-use Rattle.kernel.specs.Rules.{JobSet, Within}
+use Rattle.kernel.specs.Rules.{JobSet}
 use Rattle.kernel.specs.Jobs.{sum}
 use Rattle.kernel.specs.Log.{timeIn}
 use Rattle.kernel.specs.Laws.Control.{Lawful}

@@ -10,7 +10,7 @@ use Rattle.table.specs.declared.Outcome.{Outcome}
 use Rattle.table.proofs.Whole.{refusal-is}
 use Rattle.table.proofs.Sound.{sound-outcome}
 use Rattle.table.specs.Sound.{Sound}
-use Rattle.kernel.specs.Rules.{JobSet, SomeRunEndsLate}
+use Rattle.kernel.specs.Rules.{SomeRunEndsLate}
 use Rattle.kernel.specs.Words.{setOf}
 use Rattle.kernel.specs.Laws.Tests.{split}
 use Rattle.kernel.specs.Laws.Ending.{lastEnd, late-iff}

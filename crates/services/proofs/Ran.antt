@@ -1,5 +1,5 @@
 -- A run whose log was written into 384 words: the log stands at their start.
-use Prim.Native.Nat.{ℕ, suc, _+_, _*_, _≤_, _<_}
+use Prim.Native.Nat.{ℕ, _*_, _≤_, _<_}
 use native.Mathlib.Omega.{arith}
 use mathlib.Core.Path.{_≡_, refl, sym, ap, ap₂, _∙_}
 use mathlib.Core.List.{List, [], _∷_}
@@ -12,7 +12,7 @@ use Rattle.kernel.specs.Code.{Logged}
 use Rattle.kernel.specs.Laws.Steps.{run-bound}
 use Rattle.kernel.specs.Laws.Stores.{take-sets}
 use Rattle.services.specs.Times.{Fit}
-use Rattle.services.specs.Replay.{runIn, logIn, Declined, Replays}
+use Rattle.services.specs.Replay.{runIn, logIn, Replays}
 use Rattle.services.specs.declared.Replayed.{Replayed as Answer}
 
 -- four words a switch

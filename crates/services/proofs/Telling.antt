@@ -1,16 +1,15 @@
 -- Reading a log word by word follows the reading of its entries.
-use Prim.Native.Nat.{ℕ, zero, suc, _+_, _-_, _*_, _≤_, _<_, min, max}
+use Prim.Native.Nat.{ℕ, _+_, _-_, _≤_, _<_, min}
 use native.Mathlib.Omega.{arith}
 use mathlib.Core.Path.{_≡_, refl, sym, ap, _∙_}
-use mathlib.Core.Bool.{Bool, true, false, cond}
-use mathlib.Core.List.{List, [], _∷_, _++_}
+use mathlib.Core.List.{List}
 use lib.ListN.{length, getD, set, replicate, length-replicate, getD-replicate}
 use lib.Seq.{getD-set-same, getD-set-other}
 use borrow.Author.Tests.{lt-ltb, le-ltb}
 use Rattle.kernel.specs.Rules.{JobSet}
 use Rattle.kernel.specs.Jobs.{sum, clipped}
 use Rattle.kernel.specs.Log.{named, place, timeIn}
-use Rattle.kernel.specs.Words.{setOf, firstOf, Loaded}
+use Rattle.kernel.specs.Words.{setOf, Loaded}
 use Rattle.kernel.specs.Laws.Tests.{split}
 use Rattle.kernel.specs.Laws.Places.{put2, put2-cases}
 use Rattle.kernel.specs.Laws.Small.{has-job}

@@ -4,22 +4,21 @@ use native.Mathlib.Omega.{arith}
 use mathlib.Core.Path.{_≡_, refl, sym, ap, _∙_}
 use mathlib.Core.Bool.{Bool, true, false}
 use mathlib.Core.List.{List, [], _∷_, _++_, map}
-use lib.ListN.{length, take, getD}
+use lib.ListN.{length, take}
 use lib.Seq.{sets, ext-getD, getD-take, length-take-le}
 use Rattle.kernel.specs.Rules.{JobSet, Switch, Within}
 use Rattle.kernel.specs.Jobs.{sum}
 use Rattle.kernel.specs.Log.{place, timeIn, switchWords, logWords}
-use Rattle.kernel.specs.Words.{setOf, Loaded}
+use Rattle.kernel.specs.Words.{setOf}
 use Rattle.kernel.specs.Laws.Tests.{split}
 use Rattle.kernel.specs.Laws.Range.{run-same}
 use Rattle.kernel.specs.Laws.Ending.{all-in-frame}
-use Rattle.kernel.specs.Laws.Times.{entryOf, logOf, timesOf, log-tells}
+use Rattle.kernel.specs.Laws.Times.{entryOf, logOf, log-tells}
 use Rattle.services.specs.Open.{InFrame}
 use Rattle.services.specs.Times.{Tells}
 use Rattle.services.specs.Replay.{logIn}
 use Rattle.services.specs.Told.{entriesWords, TellsTimes}
 use Rattle.services.specs.Judge.{Gives, segmentsIn, Judges, RunsTo}
-use Rattle.services.specs.declared.Judged.{Judged as Answer}
 use Rattle.services.proofs.Credits.{place-before}
 
 -- a log's words are those of its entries

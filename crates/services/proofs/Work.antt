@@ -1,5 +1,5 @@
 -- The ticks of a job, and of all, are few enough for a word.
-use Prim.Native.Nat.{ℕ, _*_, _≤_, _<_}
+use Prim.Native.Nat.{ℕ, _≤_, _<_}
 use native.Mathlib.Omega.{arith}
 use mathlib.Core.List.{List}
 use Rattle.kernel.specs.Words.{setOf, Loaded}

@@ -1,9 +1,9 @@
 -- Times as they are lent: one per segment in table order.
-use Prim.Native.Nat.{ℕ, _+_, _≤_, _<_}
+use Prim.Native.Nat.{ℕ, _≤_, _<_}
 use mathlib.Core.Path.{_≡_}
 use mathlib.Core.Bool.{Bool, true, false}
 use mathlib.Core.List.{List}
-use lib.ListN.{length, getD}
+use lib.ListN.{length}
 use Rattle.kernel.specs.Rules.{JobSet, Within}
 use Rattle.kernel.specs.Jobs.{sum}
 use Rattle.kernel.specs.Log.{timeIn}

@@ -9,10 +9,12 @@ use Rattle.kernel.specs.Laws.Control.{weight}
 use Rattle.kernel.specs.Laws.Fall.{alive-seg}
 use Rattle.kernel.specs.Laws.Step.{State, present}
 use Rattle.orders.specs.Laws.Box.{Box, early, late, latest, leaves, cuts}
+use Rattle.orders.specs.Laws.Spans.{cut-law}
 use Rattle.orders.specs.Laws.Walk.{hang, grow}
 use Rattle.walk.specs.State.{standingAt}
-use Rattle.walk.specs.Choice.{Weighs, Aboves}
+use Rattle.walk.specs.Choice.{OutBy, Weighs, Aboves}
 use Rattle.walk.specs.Descent.{Wrote, High, Rep, GrowAsk, Grown, LeaveAsk, Left, CutAsk, CutOff}
+use Rattle.walk.specs.Laws.Keyed.{out-by, out-later}
 use Rattle.walk.specs.Laws.Forests.{grow-zero, grow-some}
 use Rattle.walk.specs.Laws.Writing.{still-room, wrote-none, wrote-append}
 use Rattle.walk.specs.Laws.Ticks.{late-small}
@@ -20,7 +22,7 @@ use Rattle.walk.specs.Laws.Twigs.{job-inside}
 use Rattle.walk.specs.declared.state.Standing.{Standing}
 use Rattle.walk.specs.declared.descent.Count.{Count}
 
-module _ {w s : List ℕ} {j from to : ℕ} {c : Count} {depth cap : ℕ} (A : GrowAsk w s j from to c depth cap) where
+module _ {w s : List ℕ} {j from to : ℕ} {c : Count} {depth cap first out : ℕ} (A : GrowAsk w s j from to c depth cap first out) where
   -- no switch may follow
   pub grown-none : {parent : ℕ} {b : List ℕ} → depth ≡ 0 → Grown w s s j from to parent depth cap b c b c
   grown-none e = record { kept = refl; wrote = λ S B R p q. rw (grow-zero (setOf w) S B depth e) (wrote-none (A .room)) }
@@ -53,17 +55,19 @@ module _ {w s : List ℕ} {j from to : ℕ} {c : Count} {depth cap : ℕ} (A : G
         )
 
     -- e, y and l are the earliest and the latest end, and the latest leaving
-    module _ {v e y l : ℕ} (some : 0 < depth) (ee : e ≡ from + was .least) (ey : y ≡ to + was .most) (W : Weighs w s j v) (U : Aboves w s from v y l) where
+    module _ {v e y l m : ℕ} (some : 0 < depth) (ee : e ≡ from + was .least) (ey : y ≡ to + was .most) (M : OutBy w from m) (W : Weighs w s j v)
+        (U : Aboves w s m v y l) where
       latest-is : {S : State} {B : Box} → Rep w s j S B → from ≡ B .from → to ≡ B .to → l ≡ latest (setOf w) S B
       latest-is {S} R p q =
           let κ = S .control in
           let g : v ≡ weight (setOf w) κ (S .job)
           = W .weighs κ (R .stands .keyed) (omega (arith, job-inside (A .loaded) R)) ∙ ap (weight (setOf w) κ) (R .job) in
-          U .aboves κ (R .stands .keyed) ∙ rw (p, g, ey, late-is R q)
+          U .aboves from M κ (R .stands .keyed) ∙ rw (p, g, ey, late-is R q)
 
-      pub grow-leaves : LeaveAsk w s j e l c depth cap
+      pub grow-leaves : LeaveAsk w s j e l c depth cap first m
       grow-leaves = record {
         loaded = A .loaded;
+        next = record { first = A .next .first; out = out-later (omega arith) (out-by (A .loaded) M) };
         room = A .room;
         state = A .state;
         box = A .box;
@@ -91,9 +95,18 @@ module _ {w s : List ℕ} {j from to : ℕ} {c : Count} {depth cap : ℕ} (A : G
         }
 
         -- there is one
-        pub grow-cuts : l < y → CutAsk w s₁ j e y l c₁ depth cap
+        cut-later : l < y → from ≤ l
+        cut-later h =
+            let S = A .state in
+            let B = A .box in
+            let lasts : l ≡ latest (setOf w) S B = latest-is (A .rep) (A .starts) (A .ends) in
+            let (i, a1, a2, a3, a4) = cut-law (setOf w) (A .loaded .lawful) S (B .from) (late (setOf w) S B) .hit (omega (arith, late-is (A .rep) (A .ends))) in
+            omega (arith, A .starts)
+
+        pub grow-cuts : l < y → CutAsk w s₁ j e y l c₁ depth cap first m
         grow-cuts h = record {
           loaded = A .loaded;
+          next = record { first = rw (D .kept) (A .next .first); out = out-later (cut-later h) (out-by (A .loaded) M) };
           room = still-room (A .room) (left-wrote (A .rep) (A .starts) (A .ends));
           state = A .state;
           box = A .box;

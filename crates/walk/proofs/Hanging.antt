@@ -15,12 +15,14 @@ use Rattle.orders.specs.Nodes.{nodeWords}
 use Rattle.orders.specs.Laws.Box.{Child, Span, child}
 use Rattle.orders.specs.Laws.Walk.{infoFor, grow}
 use Rattle.walk.specs.State.{standingAt, putAt, resumedAs}
+use Rattle.walk.specs.Choice.{First}
 use Rattle.walk.specs.Nodes.{rowOf}
 use Rattle.walk.specs.Descent.{Room, Twig, HangAsk, Hung, Rep, GrowAsk, Grown}
 use Rattle.walk.specs.Laws.Standing.{put-back}
 use Rattle.walk.specs.Laws.Forests.{hang-one, grow-idle}
 use Rattle.walk.specs.Laws.Writing.{wrote-none, wrote-past, wrote-node}
 use Rattle.walk.specs.Laws.Twigs.{twig-job, twig-from, twig-to, dispatched-rep}
+use Rattle.walk.specs.Laws.Unfinished.{running-key, twig-key, put-first}
 use Rattle.walk.specs.declared.state.Standing.{Standing}
 use Rattle.walk.specs.declared.switches.Switch.{Switch}
 use Rattle.walk.specs.declared.descent.Count.{Count}
@@ -40,7 +42,7 @@ module _ {w s : List ℕ} {x : Switch} {kind : Kind} {κ : Control} {least most 
   unfolding child dispatch mark
   job-row was e h = rw (e, T .switch, lt-ltb (p .job) (setOf w .jobs) h, T .stands .segment (p .job) h)
 
-module _ {w s : List ℕ} {x : Switch} {c : Count} {depth cap : ℕ} (A : HangAsk w s x c depth cap) where
+module _ {w s : List ℕ} {x : Switch} {c : Count} {depth cap first out : ℕ} (A : HangAsk w s x c depth cap first out) where
   -- it is left out
   pub hung-past : {parent : ℕ} {b : List ℕ} → cap ≤ c .nodes → Hung w s s x parent depth cap b c b c
   hung-past h = record { kept = refl; wrote = λ kind κ least most p T. rw (hang-one (grow (setOf w) depth)) (wrote-past (A .room) h) }
@@ -77,9 +79,14 @@ module _ {w s : List ℕ} {x : Switch} {c : Count} {depth cap : ℕ} (A : HangAs
         → Rep w s₁ (x .job) (child (setOf w) kind κ least most p .state) (child (setOf w) kind κ least most p .box)
     rep T = rw (es, en, ew) (dispatched-rep T (A .loaded) (omega arith))
 
-    pub hang-grows : GrowAsk w s₁ (x .job) (x .from) (x .to) more depth cap
+    -- the job has a key before and after
+    unfinished : First w s₁ first
+    unfinished = rw es (put-first (x .job) now (twig-key (A .twig) (omega arith)) (rw es at (running-key (rep (A .twig)))) (A .next .first))
+
+    pub hang-grows : GrowAsk w s₁ (x .job) (x .from) (x .to) more depth cap first out
     hang-grows = record {
       loaded = A .loaded;
+      next = record { first = unfinished; out = A .next .out };
       room = more-room (c .orders) h (omega arith);
       state = child (setOf w) (A .kind) (A .control) (A .least) (A .most) (A .span) .state;
       box = child (setOf w) (A .kind) (A .control) (A .least) (A .most) (A .span) .box;

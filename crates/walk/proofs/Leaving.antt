@@ -13,16 +13,18 @@ use Rattle.kernel.specs.Laws.Step.{State, present, leaveKindOf}
 use Rattle.orders.specs.Laws.Box.{Box, early, latest, leaves, leaveChild, leaveSpans}
 use Rattle.orders.specs.Laws.Walk.{hang, grow}
 use Rattle.walk.specs.State.{standingAt, putAt, begunAt}
+use Rattle.walk.specs.Choice.{Ended, First}
 use Rattle.walk.specs.Switches.{leaveKindFor}
 use Rattle.walk.specs.Descent.{Rep, LeaveAsk, Left}
 use Rattle.walk.specs.Laws.Standing.{put-back}
 use Rattle.walk.specs.Laws.Ticks.{high-latest}
 use Rattle.walk.specs.Laws.Twigs.{job-fits, present-word, AfterLeaving, after-leaving}
+use Rattle.walk.specs.Laws.Unfinished.{running-key, put-ended}
 use Rattle.walk.proofs.Turn.{leavings, Turn, turn-start, turn-end}
 use Rattle.walk.specs.declared.state.Standing.{Standing}
 use Rattle.walk.specs.declared.descent.Count.{Count}
 
-module _ {w s : List ℕ} {j e l : ℕ} {c : Count} {depth cap : ℕ} (A : LeaveAsk w s j e l c depth cap) {was : Standing} (ew : was ≡ standingAt s j) where
+module _ {w s : List ℕ} {j e l : ℕ} {c : Count} {depth cap first out : ℕ} (A : LeaveAsk w s j e l c depth cap first out) {was : Standing} (ew : was ≡ standingAt s j) where
   segment-is : {S : State} {B : Box} → Rep w s j S B → was .segment ≡ present S
   segment-is R = rw ew (present-word (A .loaded) R)
 
@@ -38,6 +40,10 @@ module _ {w s : List ℕ} {j e l : ℕ} {c : Count} {depth cap : ℕ} (A : Leave
         one-of-sum (setOf w .segments) (setOf w .jobs) (S .job) (O .inside),
         A .loaded .few-segments,
       )
+
+  -- none of the finished jobs is changed
+  pub leave-ended : (x : Standing) {s₁ : List ℕ} → s₁ ≡ putAt s j x → Ended w s₁ first
+  leave-ended x es = rw es (put-ended j x (running-key (A .rep)) (A .next .first .before))
 
   -- the spans are those of all leavings
   whole : (S : State) (B : Box) → e ≡ early (setOf w) S B → l ≡ latest (setOf w) S B
@@ -58,10 +64,11 @@ module _ {w s : List ℕ} {j e l : ℕ} {c : Count} {depth cap : ℕ} (A : Leave
         (put2 (B .least) (S .job) (present S) 0) (put2 (B .most) (S .job) (present S) 0)
     after R p = rw (es, ex, p) (after-leaving (A .loaded) R (ek ∙ ap (λ (y : Standing). y .segment + 1) ew) (kind-is R))
 
-    module _ {parent : ℕ} {b : List ℕ} where
-      pub leave-starts : Turn w s₁ number e l parent depth cap b c s₁ b c e
+    module _ {parent next : ℕ} {b : List ℕ} (N : First w s₁ next) where
+      pub leave-starts : Turn w s₁ number e l parent depth cap next out b c s₁ b c e
       leave-starts = turn-start (record {
         loaded = A .loaded;
+        next = record { first = N; out = A .next .out };
         kind = _;
         control = _;
         least = _;
@@ -70,7 +77,7 @@ module _ {w s : List ℕ} {j e l : ℕ} {c : Count} {depth cap : ℕ} (A : Leave
         high = rw (A .latest) (high-latest (A .loaded) (A .rep) (A .high) (A .some));
       }) (A .room)
 
-      pub left-all : {s₂ s₃ b₂ : List ℕ} {c₂ : Count} {t : ℕ} → Turn w s₁ number e l parent depth cap b c s₂ b₂ c₂ t → l < t
+      pub left-all : {s₂ s₃ b₂ : List ℕ} {c₂ : Count} {t : ℕ} → Turn w s₁ number e l parent depth cap next out b c s₂ b₂ c₂ t → l < t
           → s₃ ≡ putAt s₂ j was → Left w s s₃ j e l parent depth cap b c b₂ c₂
       left-all T h e₃ = record {
         kept = rw (e₃, T .same, es, ew) (put-back s j x (A .rep .stands .size) (job-fits (A .loaded) (A .rep)));

@@ -11,8 +11,10 @@ use Rattle.orders.specs.Orders.{Forest}
 use Rattle.orders.specs.Laws.Box.{Span, spans, child}
 use Rattle.orders.specs.Laws.Spans.{reach, span, spans-end, spans-next, spans-fuel, above-after}
 use Rattle.orders.specs.Laws.Walk.{hang, grow}
-use Rattle.walk.specs.Switches.{SpanAsk, Spanned}
+use Rattle.walk.specs.Choice.{First}
+use Rattle.walk.specs.Switches.{SwitchAsk, SpanAsk, Spanned}
 use Rattle.walk.specs.Descent.{Room, Wrote, High, Twig, HangAsk, Hung}
+use Rattle.walk.specs.Laws.Keyed.{out-later}
 use Rattle.walk.specs.Laws.Forests.{hang-none}
 use Rattle.walk.specs.Laws.Writing.{still-room, wrote-none, wrote-append}
 use Rattle.walk.specs.Laws.Ticks.{high-switch}
@@ -25,8 +27,9 @@ abbrev pub leavings : JobSet → (depth : ℕ) → Kind → Control → (least m
 leavings J depth kind κ least most top t = hang (grow J (depth - 1)) (map (child J kind κ least most) (spans J κ top (suc top - t) t))
 
 -- what the loop stands on
-pub record Leaves (w s : List ℕ) (number early latest depth : ℕ) : Type 0 where
+pub record Leaves (w s : List ℕ) (number early latest depth first out : ℕ) : Type 0 where
   pub loaded : Loaded w
+  pub next : SwitchAsk w s first out early
   pub kind : Kind
   pub control : Control
   pub least : ℕ → ℕ → ℕ
@@ -35,8 +38,8 @@ pub record Leaves (w s : List ℕ) (number early latest depth : ℕ) : Type 0 wh
   pub high : High latest (depth - 1)
 
 -- before the switches from tick t on: the words are as at the start, and to walk what remains is to walk the whole, of whatever the words stand for
-pub record Turn (w s₀ : List ℕ) (number early latest parent depth cap : ℕ) (b₀ : List ℕ) (c₀ : Count) (s b : List ℕ) (c : Count) (t : ℕ) : Type 0 where
-  pub leaves : Leaves w s₀ number early latest depth
+pub record Turn (w s₀ : List ℕ) (number early latest parent depth cap first out : ℕ) (b₀ : List ℕ) (c₀ : Count) (s b : List ℕ) (c : Count) (t : ℕ) : Type 0 where
+  pub leaves : Leaves w s₀ number early latest depth first out
   pub same : s ≡ s₀
   pub long : length b ≡ length b₀
   pub room : Room c cap
@@ -45,8 +48,8 @@ pub record Turn (w s₀ : List ℕ) (number early latest parent depth cap : ℕ)
       → Wrote (setOf w) (leavings (setOf w) depth kind κ least most latest t) parent cap b c b′ c′
       → Wrote (setOf w) (leavings (setOf w) depth kind κ least most latest early) parent cap b₀ c₀ b′ c′
 
-pub turn-start : {w s : List ℕ} {number early latest parent depth cap : ℕ} {b : List ℕ} {c : Count} → Leaves w s number early latest depth → Room c cap
-    → Turn w s number early latest parent depth cap b c s b c early
+pub turn-start : {w s : List ℕ} {number early latest parent depth cap first out : ℕ} {b : List ℕ} {c : Count} → Leaves w s number early latest depth first out → Room c cap
+    → Turn w s number early latest parent depth cap first out b c s b c early
 turn-start A r = record { leaves = A; same = refl; long = refl; room = r; from = omega arith; rest = λ kind κ least most T b′ c′ W. W }
 
 -- the spans one by one
@@ -58,8 +61,8 @@ spans-step J L κ top t h =
     ap (λ (f : ℕ). spans J κ top f t) e ∙ spans-next J κ top (top - t) t h
     ∙ ap (λ (l : List Span). span J κ top t ∷ l) (spans-fuel J L κ top (top - t) (suc top - reach J κ top t) (reach J κ top t) (omega arith) (omega arith))
 
-module _ {w s₀ : List ℕ} {number early latest parent depth cap : ℕ} {b₀ : List ℕ} {c₀ : Count} {s b : List ℕ} {c : Count} {t : ℕ}
-    (T : Turn w s₀ number early latest parent depth cap b₀ c₀ s b c t) where
+module _ {w s₀ : List ℕ} {number early latest parent depth cap first out : ℕ} {b₀ : List ℕ} {c₀ : Count} {s b : List ℕ} {c : Count} {t : ℕ}
+    (T : Turn w s₀ number early latest parent depth cap first out b₀ c₀ s b c t) where
   -- no span is left
   pub turn-end : {kind : Kind} {κ : Control} {least most : ℕ → ℕ → ℕ} → latest < t → AfterLeaving w s₀ number early kind κ least most
       → Wrote (setOf w) (leavings (setOf w) depth kind κ least most latest early) parent cap b₀ c₀ b c
@@ -67,9 +70,12 @@ module _ {w s₀ : List ℕ} {number early latest parent depth cap : ℕ} {b₀ 
       (rw (spans-end (setOf w) κ latest (suc latest - t) t h, hang-none (grow (setOf w) (depth - 1))) (wrote-none (T .room)))
 
   module _ (h : t ≤ latest) where
-    pub turn-span : SpanAsk w s t latest
+    first-now : First w s first
+    first-now = rw (T .same) (T .leaves .next .first)
+
+    pub turn-span : SpanAsk w s first out t latest
     turn-span = record {
-      loaded = T .leaves .loaded;
+      switch = record { first = first-now; out = out-later (T .from) (T .leaves .next .out) };
       control = T .leaves .control;
       keyed = rw (T .same) (T .leaves .after .stands .keyed);
       order = h;
@@ -92,12 +98,13 @@ module _ {w s₀ : List ℕ} {number early latest parent depth cap : ℕ} {b₀ 
       pub turn-less : latest + 1 - (x .last + 1) < latest + 1 - t
       turn-less = omega (arith, turn-last)
 
-      pub turn-hang : HangAsk w s x c (depth - 1) cap
+      pub turn-hang : HangAsk w s x c (depth - 1) cap first out
       turn-hang =
           let A = T .leaves in
           let G = twig (A .after) in
           record {
             loaded = A .loaded;
+            next = record { first = first-now; out = out-later (omega (arith, T .from, ap (λ (y : Switch). y .from) (G .switch))) (A .next .out) };
             room = T .room;
             kind = A .kind;
             control = A .control;
@@ -127,7 +134,7 @@ module _ {w s₀ : List ℕ} {number early latest parent depth cap : ℕ} {b₀ 
             (wrote-append (grow (setOf w) (depth - 1)) (child (setOf w) kind κ least most (span (setOf w) κ latest t) ∷ []) _
             (H .wrote kind κ least most _ (twig A)) (rw (next-span A) at W))
 
-        pub turn-more : Turn w s₀ number early latest parent depth cap b₀ c₀ s′ b′ c′ (x .last + 1)
+        pub turn-more : Turn w s₀ number early latest parent depth cap first out b₀ c₀ s′ b′ c′ (x .last + 1)
         turn-more = record {
           leaves = T .leaves;
           same = H .kept ∙ T .same;

@@ -16,7 +16,7 @@ use Rattle.orders.specs.Laws.Child.{Owes}
 use Rattle.orders.specs.Laws.Walk as walk
 use Rattle.orders.specs.Laws.Words.{words}
 use Rattle.walk.specs.State.{Stands}
-use Rattle.walk.specs.Switches.{switchOf}
+use Rattle.walk.specs.Switches.{switchOf, SwitchAsk}
 use Rattle.walk.specs.declared.switches.Switch.{Switch}
 use Rattle.walk.specs.declared.descent.Count.{Count}
 
@@ -53,8 +53,9 @@ pub record Twig (w s : List ℕ) (x : Switch) (kind : Kind) (κ : Control) (leas
   pub inside : p .job ≤ setOf w .jobs
   pub owes : Owes (setOf w) (child (setOf w) kind κ least most p .state) (child (setOf w) kind κ least most p .box)
 
-pub record HangAsk (w s : List ℕ) (x : Switch) (seen : Count) (depth cap : ℕ) : Type 0 where
+pub record HangAsk (w s : List ℕ) (x : Switch) (seen : Count) (depth cap first out : ℕ) : Type 0 where
   pub loaded : Loaded w
+  pub next : SwitchAsk w s first out (x .from)
   pub room : Room seen cap
   pub kind : Kind
   pub control : Control
@@ -78,8 +79,9 @@ pub record Rep (w s : List ℕ) (j : ℕ) (S : State) (B : Box) : Type 0 where
   pub job : j ≡ S .job
   pub on : S .control .begun (S .job) ≡ true
 
-pub record GrowAsk (w s : List ℕ) (j from to : ℕ) (seen : Count) (depth cap : ℕ) : Type 0 where
+pub record GrowAsk (w s : List ℕ) (j from to : ℕ) (seen : Count) (depth cap first out : ℕ) : Type 0 where
   pub loaded : Loaded w
+  pub next : SwitchAsk w s first out from
   pub room : Room seen cap
   pub state : State
   pub box : Box
@@ -95,8 +97,9 @@ pub record Grown (w s s′ : List ℕ) (j from to parent depth cap : ℕ) (b : L
 
 -- ---- leave, cut_off
 
-pub record LeaveAsk (w s : List ℕ) (j e l : ℕ) (seen : Count) (depth cap : ℕ) : Type 0 where
+pub record LeaveAsk (w s : List ℕ) (j e l : ℕ) (seen : Count) (depth cap first out : ℕ) : Type 0 where
   pub loaded : Loaded w
+  pub next : SwitchAsk w s first out e
   pub room : Room seen cap
   pub state : State
   pub box : Box
@@ -111,8 +114,9 @@ pub record Left (w s s′ : List ℕ) (j e l parent depth cap : ℕ) (b : List �
   pub wrote : (S : State) (B : Box) → Rep w s j S B → e ≡ early (setOf w) S B → l ≡ latest (setOf w) S B
       → Wrote (setOf w) (walk.hang (walk.grow (setOf w) (depth - 1)) (leaves (setOf w) S B)) parent cap b c b′ c′
 
-pub record CutAsk (w s : List ℕ) (j e y l : ℕ) (seen : Count) (depth cap : ℕ) : Type 0 where
+pub record CutAsk (w s : List ℕ) (j e y l : ℕ) (seen : Count) (depth cap first out : ℕ) : Type 0 where
   pub loaded : Loaded w
+  pub next : SwitchAsk w s first out l
   pub room : Room seen cap
   pub state : State
   pub box : Box

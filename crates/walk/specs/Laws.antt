@@ -4,6 +4,7 @@ pub mod Spanned
 pub mod Moves
 pub mod Ticks
 pub mod Twigs
+pub mod Unfinished
 pub mod Forests
 pub mod Writing
 pub mod Ends

@@ -3,12 +3,13 @@ use Prim.Native.Nat.{ℕ, _≤_, _<_, max}
 use mathlib.Core.Path.{_≡_}
 use mathlib.Core.List.{List}
 use Rattle.kernel.specs.Rules.{JobSet, Kind, END, STEP}
-use Rattle.kernel.specs.Words.{setOf, Loaded}
+use Rattle.kernel.specs.Words.{setOf}
 use Rattle.kernel.specs.Laws.Tests.{iflt}
 use Rattle.kernel.specs.Laws.Control.{Control, after}
 use Rattle.orders.specs.Laws.Box.{Span}
 use Rattle.orders.specs.Laws.Spans.{span}
 use Rattle.walk.specs.State.{Keyed}
+use Rattle.walk.specs.Choice.{First, Out}
 use Rattle.walk.specs.declared.switches.Switch.{Switch}
 
 abbrev pub leaveKindFor : JobSet → (i k : ℕ) → Kind
@@ -28,9 +29,14 @@ switchFor J kind first last d = record {
 abbrev pub switchOf : JobSet → (kind : ℕ) → Span → Switch
 switchOf J kind s = switchFor J kind (s .first) (s .last) (s .job)
 
--- what a span asks: words that hold the keys of some control
-pub record SpanAsk (w s : List ℕ) (t latest : ℕ) : Type 0 where
-  pub loaded : Loaded w
+-- what a switch at tick t asks: the first unfinished job, and how many jobs are known to be released by then
+pub record SwitchAsk (w s : List ℕ) (i m t : ℕ) : Type 0 where
+  pub first : First w s i
+  pub out : Out w t m
+
+-- and a span: words that hold the keys of some control
+pub record SpanAsk (w s : List ℕ) (first out t latest : ℕ) : Type 0 where
+  pub switch : SwitchAsk w s first out t
   pub control : Control
   pub keyed : Keyed (setOf w) control s
   pub order : t ≤ latest

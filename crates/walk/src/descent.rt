@@ -13,7 +13,8 @@ pub struct Count {
     pub orders: u32,
 }
 
-// The switch x as the next node, with all that may follow it. Nodes from number `cap` on are left out.
+// The switch x as the next node, with all that may follow it. Nodes from number `cap` on are left out. Job `first` is the first unfinished one, and the first `out`
+// jobs are released before the dispatch.
 pub fn hang(
     set: &[u32; 322],
     state: &mut [u32; 128],
@@ -23,8 +24,10 @@ pub fn hang(
     parent: u32,
     depth: usize,
     cap: u32,
+    first: usize,
+    out: usize,
 ) -> Count
-    requires { ⌜ HangAsk (now set) (now state) x seen depth cap ⌝ }
+    requires { ⌜ HangAsk (now set) (now state) x seen depth cap first out ⌝ }
     ensures { λ r. ⌜ Hung (now (set .entry)) (now (state .entry)) (now (state .exit)) x parent depth cap (now (words .entry)) seen (now (words .exit)) r ⌝ }
 {
     let at = seen.nodes;
@@ -46,7 +49,20 @@ pub fn hang(
         nodes: at + 1,
         orders: seen.orders,
     };
-    let all = grow(set, state, words, d, x.from, x.to, more, at, depth, cap);
+    let all = grow(
+        set,
+        state,
+        words,
+        d,
+        x.from,
+        x.to,
+        more,
+        at,
+        depth,
+        cap,
+        first,
+        out,
+    );
     state::put(state, d, was);
     all
 }
@@ -63,8 +79,10 @@ fn grow(
     parent: u32,
     depth: usize,
     cap: u32,
+    first: usize,
+    out: usize,
 ) -> Count
-    requires { ⌜ GrowAsk (now set) (now state) j from to seen depth cap ⌝ }
+    requires { ⌜ GrowAsk (now set) (now state) j from to seen depth cap first out ⌝ }
     ensures { λ r. ⌜ Grown (now (set .entry)) (now (state .entry)) (now (state .exit)) j from to parent depth cap (now (words .entry)) seen (now (words .exit)) r ⌝ }
 {
     if depth == 0 {
@@ -73,7 +91,8 @@ fn grow(
     let was = state::of_job(state, j);
     let early = from + was.least;
     let late = to + was.most;
-    let latest = choice::above(set, state, from, choice::weight(set, state, j), late);
+    let released = choice::released(set, out, from);
+    let latest = choice::above(set, state, released, choice::weight(set, state, j), late);
     let left = leave(
         set,
         state,
@@ -85,6 +104,8 @@ fn grow(
         parent,
         depth,
         cap,
+        first,
+        released,
     );
     if late <= latest {
         return left;
@@ -101,6 +122,8 @@ fn grow(
         parent,
         depth,
         cap,
+        first,
+        released,
     )
 }
 
@@ -116,19 +139,33 @@ fn leave(
     parent: u32,
     depth: usize,
     cap: u32,
+    first: usize,
+    out: usize,
 ) -> Count
-    requires { ⌜ LeaveAsk (now set) (now state) j early latest seen depth cap ⌝ }
+    requires { ⌜ LeaveAsk (now set) (now state) j early latest seen depth cap first out ⌝ }
     ensures { λ r. ⌜ Left (now (set .entry)) (now (state .entry)) (now (state .exit)) j early latest parent depth cap (now (words .entry)) seen (now (words .exit)) r ⌝ }
 {
     let was = state::of_job(state, j);
     let k = was.segment + 1;
     let kind = switches::leave_kind(set, j, k);
     state::put(state, j, state::begun(set, j, k));
+    let next = choice::first_unfinished(set, state, first);
     let mut count = seen;
     let mut t = early;
     while t <= latest {
-        let x = switches::span(set, state, kind, t, latest);
-        count = hang(set, state, words, x, count, parent, depth - 1, cap);
+        let x = switches::span(set, state, next, out, kind, t, latest);
+        count = hang(
+            set,
+            state,
+            words,
+            x,
+            count,
+            parent,
+            depth - 1,
+            cap,
+            next,
+            out,
+        );
         t = x.last + 1;
     }
     state::put(state, j, was);
@@ -148,15 +185,28 @@ fn cut_off(
     parent: u32,
     depth: usize,
     cap: u32,
+    first: usize,
+    out: usize,
 ) -> Count
-    requires { ⌜ CutAsk (now set) (now state) j early late latest seen depth cap ⌝ }
+    requires { ⌜ CutAsk (now set) (now state) j early late latest seen depth cap first out ⌝ }
     ensures { λ r. ⌜ CutOff (now (set .entry)) (now (state .entry)) (now (state .exit)) j early late latest parent depth cap (now (words .entry)) seen (now (words .exit)) r ⌝ }
 {
     let was = state::of_job(state, j);
     let cut = state::cut(was, switches::least_left(early, latest), late - latest);
     state::put(state, j, cut);
-    let x = switches::cut(set, state, latest);
-    let all = hang(set, state, words, x, seen, parent, depth - 1, cap);
+    let x = switches::cut(set, state, first, out, latest);
+    let all = hang(
+        set,
+        state,
+        words,
+        x,
+        seen,
+        parent,
+        depth - 1,
+        cap,
+        first,
+        out,
+    );
     state::put(state, j, was);
     all
 }

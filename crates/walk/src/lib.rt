@@ -48,7 +48,8 @@ fn pass(set: &[u32; 322], words: &mut [u32], cap: u32) -> Count
     ensures { λ r. ⌜ Passed (now (set .entry)) cap (now (words .entry)) (now (words .exit)) r ⌝ }
 {
     let mut state = state::fresh(set);
-    let first = switches::first(set, &state);
+    let next = choice::first_unfinished(set, &state, 0);
+    let first = switches::first(set, &state, next);
     let none = Count {
         nodes: 0,
         orders: 0,
@@ -62,6 +63,8 @@ fn pass(set: &[u32; 322], words: &mut [u32], cap: u32) -> Count
         4294967295,
         enough(set),
         cap,
+        next,
+        0,
     )
 }
 

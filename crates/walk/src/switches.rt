@@ -2,8 +2,9 @@
 ghost use mathlib.Core.Path.{_≡_};
 ghost use Prim.Native.Nat.{_-_, max};
 ghost use Rattle.kernel.specs.Log.{kindNumber};
-ghost use Rattle.kernel.specs.Words.{setOf, Loaded};
-ghost use Rattle.walk.specs.Switches.{leaveKindFor, switchFor, SpanAsk, Spanned, Cuts, Begins};
+ghost use Rattle.kernel.specs.Words.{setOf};
+ghost use Rattle.walk.specs.Choice.{First};
+ghost use Rattle.walk.specs.Switches.{leaveKindFor, switchFor, SwitchAsk, SpanAsk, Spanned, Cuts, Begins};
 use crate::choice;
 use kernel::jobs;
 
@@ -56,29 +57,41 @@ fn to_job(set: &[u32; 322], kind: u32, first: u32, last: u32, d: usize) -> Switc
 }
 
 // The switch of the ticks of leaving from t to `latest` at most that lead to one job.
-pub fn span(set: &[u32; 322], state: &[u32; 128], kind: u32, t: u32, latest: u32) -> Switch
-    requires { ⌜ SpanAsk (now set) (now state) t latest ⌝ }
+pub fn span(
+    set: &[u32; 322],
+    state: &[u32; 128],
+    first: usize,
+    out: usize,
+    kind: u32,
+    t: u32,
+    latest: u32,
+) -> Switch
+    requires { ⌜ SpanAsk (now set) (now state) first out t latest ⌝ }
     ensures { λ r. ⌜ Spanned (now (set .entry)) (now (state .entry)) kind t latest r ⌝ }
 {
-    let d = choice::after(set, state, t);
-    let end = choice::above(set, state, t, choice::weight(set, state, d), latest + 1);
+    let released = choice::released(set, out, t);
+    let d = choice::after(set, state, first, released);
+    let weight = choice::weight(set, state, d);
+    let end = choice::above(set, state, released, weight, latest + 1);
     to_job(set, kind, t, end - 1, d)
 }
 
 // The switch by a cut at tick t.
-pub fn cut(set: &[u32; 322], state: &[u32; 128], t: u32) -> Switch
-    requires { ⌜ Loaded (now set) ⌝ }
+pub fn cut(set: &[u32; 322], state: &[u32; 128], first: usize, out: usize, t: u32) -> Switch
+    requires { ⌜ SwitchAsk (now set) (now state) first out t ⌝ }
     ensures { λ r. ⌜ Cuts (now (set .entry)) (now (state .entry)) t r ⌝ }
 {
-    to_job(set, 3, t, t, choice::after(set, state, t))
+    let released = choice::released(set, out, t);
+    to_job(set, 3, t, t, choice::after(set, state, first, released))
 }
 
 // The first dispatch, which is a switch at its own tick.
-pub fn first(set: &[u32; 322], state: &[u32; 128]) -> Switch
-    requires { ⌜ Loaded (now set) ⌝ }
+pub fn first(set: &[u32; 322], state: &[u32; 128], first: usize) -> Switch
+    requires { ⌜ First (now set) (now state) first ⌝ }
     ensures { λ r. ⌜ Begins (now (set .entry)) (now (state .entry)) r ⌝ }
 {
-    let d = choice::after(set, state, 0);
+    let released = choice::released(set, 0, 0);
+    let d = choice::after(set, state, first, released);
     let tick = jobs::release(set, d);
     to_job(set, 0, tick, tick, d)
 }

@@ -1,63 +1,45 @@
 use Prim.Native.Nat.{ℕ}
-use lib.ListN.{replicate}
-use Rattle.kernel.specs.Words.{setOf}
-use Rattle.services.specs.Replay.{logIn}
 use native.Mathlib.Omega.{arith}
-use mathlib.Core.Path.{_≡_, sym, ap, _∙_}
-use mathlib.Core.List.{List}
-use lib.ListN.{length, take, length-replicate}
-use lib.Seq.{sets, length-sets}
+use mathlib.Core.Path.{ap, _∙_}
+use lib.ListN.{length-replicate}
+use lib.Seq.{sets}
 use borrow.Author.Tests.{not-true, not-false}
 use Rattle.services.proofs.Ran.{few-ran, log-ran, words-ran, room-ran, replay-unfit, replay-small, replay-done}
 use borrow.Author.Needs.{needs}
 use Rattle.services.proofs.replay_set.Statement.{statement}
 use Rattle.services.proofs.replay_set.Tie as tie
-use Rattle.services.proofs.replay_set.Reads as reads
-use Rattle.services.proofs.replay_set.Lts as lts
-use Rattle.kernel.proofs.run.Reads as run-reads
-use Rattle.services.proofs.copy.copy.Reads as copy-reads
-use Rattle.services.proofs.times.fit.Reads as fit-reads
 
--- src/lib.rt:32:9
 fit-requires : tie.Need-fit-requires
 fit-requires c κs = search needs
 
--- src/lib.rt:33:9
 returns : tie.Need-returns
 returns c = replay-unfit _ _ _ (c .before .fit .ensures .no (not-true _ (c .if1 .taken)))
 
--- src/lib.rt:36:44
 slice-aggregate-run : tie.Need-slice-aggregate-run
 slice-aggregate-run c = search needs
 
--- src/lib.rt:36:9
 run-requires : tie.Need-run-requires
 run-requires c κs =
     let fit = c .before .before in
     record { loaded = fit .before .before .before .pre; within = fit .fit .ensures .yes (not-false _ (c .before .if1 .left)) .within }
 
--- src/lib.rt:37:20
 mul-if2 : tie.Need-mul-if2
 mul-if2 c =
     let fit = c .before .before .before .before in
     omega (arith, few-ran _ _ (fit .before .before .before .pre) (fit .fit .ensures .yes (not-false _ (c .before .before .before .if1 .left)) .within) _ _ _ (c .before .run .ensures))
 
--- src/lib.rt:38:9
 returns-2 : tie.Need-returns-2
 returns-2 c =
     let fit = c .before .before .before .before .before in
     let F = fit .fit .ensures .yes (not-false _ (c .before .before .before .before .if1 .left)) in
     replay-small _ _ _ F (omega (arith, c .if2 .taken, log-ran _ _ (fit .before .before .before .pre) (F .within) _ _ _ (c .before .before .run .ensures)))
 
--- src/lib.rt:40:16
 slice-aggregate-copy : tie.Need-slice-aggregate-copy
 slice-aggregate-copy c = search needs
 
--- src/lib.rt:40:29
 mul-copy : tie.Need-mul-copy
 mul-copy c = search needs
 
--- src/lib.rt:40:5
 copy-requires : tie.Need-copy-requires
 copy-requires c κs =
     let run = c .before .before .before .before in
@@ -65,18 +47,15 @@ copy-requires c κs =
     let F = fit .fit .ensures .yes (not-false _ (run .before .before .if1 .left)) in
     (room-ran _ _ (fit .before .before .before .pre) (F .within) _ _ _ (run .run .ensures) (length-replicate {A = ℕ} 384 0), omega (arith, c .before .before .if2 .left))
 
--- src/lib.rt:41:38
 cast-t17 : tie.Need-cast-t17
 cast-t17 c =
     let run = c .before .before .before .before .before .before .before in
     let fit = run .before .before .before in
     omega (arith, few-ran _ _ (fit .before .before .before .pre) (fit .fit .ensures .yes (not-false _ (run .before .before .if1 .left)) .within) _ _ _ (run .run .ensures))
 
--- src/lib.rt:28:1
 same-length : tie.Need-same-length
 same-length c = search needs
 
--- src/lib.rt:28:1
 returns-3 : tie.Need-returns-3
 returns-3 c =
     let run = c .before .before .before .before .before .before .before in

@@ -1,49 +1,34 @@
 use Rattle.services.proofs.Ran.{room-ran}
 use Rattle.services.proofs.Verdicts.{runs-tells}
 use native.Mathlib.Omega.{arith}
-use mathlib.Core.Path.{_≡_, sym, ap, _∙_}
-use lib.ListN.{length, replicate, length-replicate}
-use lib.Seq.{length-sets}
+use lib.ListN.{length-replicate}
 use Prim.Native.Nat.{ℕ}
 use borrow.Author.Tests.{not-true, not-false}
-use Rattle.kernel.specs.Words.{setOf}
-use Rattle.services.specs.Replay.{logIn}
 use Rattle.services.proofs.Fit.{tells-no, jobs-within, within-jobs}
 use Rattle.services.proofs.Ran.{few-ran, words-ran}
 use borrow.Author.Needs.{needs}
 use Rattle.services.proofs.replays_to.Statement.{statement}
 use Rattle.services.proofs.replays_to.Tie as tie
-use Rattle.services.proofs.replays_to.Reads as reads
-use Rattle.services.proofs.replays_to.Lts as lts
-use Rattle.kernel.proofs.run.Reads as run-reads
-use Rattle.services.proofs.copy.same.Reads as same-reads
-use Rattle.services.proofs.times.fit_jobs.Reads as fit-jobs-reads
 
--- src/lib.rt:111:9
 fit-jobs-requires : tie.Need-fit-jobs-requires
 fit-jobs-requires c κs = search needs
 
--- src/lib.rt:112:9
 returns : tie.Need-returns
 returns c =
     let start = c .before .before .before .before in
     tells-no _ (λ R. c .before .fit-jobs .ensures .no (not-true _ (c .if1 .taken)) (within-jobs _ (start .pre) (start .args .times .now) (R .within)))
 
--- src/lib.rt:115:44
 slice-aggregate-run : tie.Need-slice-aggregate-run
 slice-aggregate-run c = search needs
 
--- src/lib.rt:115:9
 run-requires : tie.Need-run-requires
 run-requires c κs =
     let start = c .before .before .before .before .before .before in
     record { loaded = start .pre; within = jobs-within _ (start .pre) (start .args .times .now) (c .before .before .before .fit-jobs .ensures .yes (not-false _ (c .before .before .if1 .left))) }
 
--- src/lib.rt:116:21
 slice-aggregate-same : tie.Need-slice-aggregate-same
 slice-aggregate-same c = search needs
 
--- src/lib.rt:116:29
 mul-same : tie.Need-mul-same
 mul-same c =
     let run = c .before .before in
@@ -51,7 +36,6 @@ mul-same c =
     let start = fit .before .before .before in
     omega (arith, few-ran _ _ (start .pre) (jobs-within _ (start .pre) (start .args .times .now) (fit .fit-jobs .ensures .yes (not-false _ (run .before .before .before .if1 .left)))) _ _ _ (run .run .ensures))
 
--- src/lib.rt:116:5
 same-requires : tie.Need-same-requires
 same-requires c κs =
     let run = c .before .before in
@@ -59,7 +43,6 @@ same-requires c κs =
     let start = fit .before .before .before in
     room-ran _ _ (start .pre) (jobs-within _ (start .pre) (start .args .times .now) (fit .fit-jobs .ensures .yes (not-false _ (run .before .before .before .if1 .left)))) _ _ _ (run .run .ensures) (length-replicate {A = ℕ} 384 0)
 
--- src/lib.rt:107:1
 returns-2 : tie.Need-returns-2
 returns-2 c =
     let run = c .before .before .before in

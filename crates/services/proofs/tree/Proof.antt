@@ -1,36 +1,25 @@
-use mathlib.Core.Path.{_≡_, refl, sym, subst}
-use Rattle.kernel.specs.Rules.{JobSet}
-use Rattle.kernel.specs.Words.{setOf}
+use mathlib.Core.Path.{refl, subst}
 use Rattle.services.specs.Tree.{Trees}
 use Rattle.services.proofs.Opened.{opened-refused, opened-ready, opened-answered, opened-in-frame}
 use borrow.Author.Needs.{needs}
 use Rattle.services.proofs.tree.Statement.{statement}
 use Rattle.services.proofs.tree.Tie as tie
-use Rattle.services.proofs.tree.Reads as reads
-use Rattle.services.proofs.tree.Lts as lts
-use Rattle.services.proofs.open.open.Reads as open-reads
-use Rattle.services.proofs.tree_set.Reads as tree-set-reads
 
--- src/lib.rt:133:9
 open-requires : tie.Need-open-requires
 open-requires c κs = search needs
 
--- src/lib.rt:135:9
 returns : tie.Need-returns
 returns c =
     opened-refused _ (c .before .before .«open» .result) (c .before .before .«open» .ensures) (c .if1 .taken) (refl, refl)
 
--- src/lib.rt:142:5
 tree-set-requires : tie.Need-tree-set-requires
 tree-set-requires c κs =
     let opened = c .before .before .before .before .before in
     opened-in-frame _ (opened .«open» .result) (opened-ready _ (opened .«open» .result) (opened .«open» .ensures) (c .before .before .before .if1 .left))
 
--- src/lib.rt:130:1
 same-length : tie.Need-same-length
 same-length c = search needs
 
--- src/lib.rt:130:1
 returns-2 : tie.Need-returns-2
 returns-2 c =
     let set = c .before .before in

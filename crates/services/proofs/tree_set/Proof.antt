@@ -2,38 +2,28 @@ use Rattle.services.proofs.Grew.{draws-as}
 use borrow.Author.Needs.{needs}
 use Rattle.services.proofs.tree_set.Statement.{statement}
 use Rattle.services.proofs.tree_set.Tie as tie
-use Rattle.services.proofs.tree_set.Reads as reads
-use Rattle.services.proofs.tree_set.Lts as lts
-use Rattle.walk.proofs.tree.Reads as tree-reads
 
--- src/lib.rt:149:11
 tree-requires : tie.Need-tree-requires
 tree-requires c κs = search needs
 
--- src/lib.rt:150:22
 enum-known-count : tie.Need-enum-known-count
 enum-known-count c = search needs
 
--- src/lib.rt:155:28
 enum-told : tie.Need-enum-told
 enum-told c = search needs
 
--- src/lib.rt:145:1
 same-length : tie.Need-same-length
 same-length c = search needs
 
--- src/lib.rt:145:1
 returns : tie.Need-returns
 returns c =
     let tree = c .before .before .before .before .before in
     let start = tree .before .before .before in
     draws-as _ _ _ (start .pre) (tree .tree .result) (tree .tree .ensures) _ (c .before .count .given .1)
 
--- src/lib.rt:145:1
 same-length-2 : tie.Need-same-length-2
 same-length-2 c = search needs
 
--- src/lib.rt:145:1
 returns-2 : tie.Need-returns-2
 returns-2 c =
     let tree = c .before .before .before .before in

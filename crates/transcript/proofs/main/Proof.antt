@@ -1,4 +1,3 @@
-use Prim.Native.Nat.{_-_}
 use borrow.Author.Needs.{needs}
 use Rattle.transcript.proofs.main.Statement.{statement}
 use Rattle.transcript.proofs.main.Tie as tie

@@ -1,15 +1,9 @@
-use mathlib.Core.Path.{_≡_, refl}
 use lib.ListN.{length}
-use Prim.Native.Nat.{ℕ, _+_, _-_, _*_, _≤_, _<_}
+use Prim.Native.Nat.{_+_, _-_, _≤_}
 use native.Mathlib.Omega.{arith}
 use borrow.Author.Needs.{needs}
 use Rattle.transcript.proofs.serve_all.Statement.{statement}
 use Rattle.transcript.proofs.serve_all.Tie as tie
-use Rattle.transcript.proofs.serve_all.Reads as reads
-use Rattle.transcript.proofs.serve_all.Lts as lts
-use Rattle.transcript.proofs.serve.Reads as serve-reads
-use Rattle.transcript.proofs.text.between.Reads as between-reads
-use Rattle.transcript.proofs.text.line_end.Reads as line-end-reads
 
 abbrev Inv-loop : tie.InvT-loop
 Inv-loop input table₀ numbers₀ words₀ listing₀ setting₀ at₀ table numbers words listing setting at = at ≤ length input + 1
@@ -17,35 +11,27 @@ Inv-loop input table₀ numbers₀ words₀ listing₀ setting₀ at₀ table nu
 abbrev μ-loop : tie.MeasureT-loop
 μ-loop input table₀ numbers₀ words₀ listing₀ setting₀ at₀ table numbers words listing setting at = length input + 1 - at
 
--- src/main.rt:65:5
 loop-holds : tie.Need-loop-holds Inv-loop μ-loop
 loop-holds c = search needs
 
--- src/main.rt:66:13
 line-end-requires : tie.Need-line-end-requires Inv-loop μ-loop
 line-end-requires c κs = search needs
 
--- src/main.rt:68:13
 between-requires : tie.Need-between-requires Inv-loop μ-loop
 between-requires c κs = search needs
 
--- src/main.rt:67:9
 serve-requires : tie.Need-serve-requires Inv-loop μ-loop
 serve-requires c κs = search needs
 
--- src/main.rt:75:14
 add-at : tie.Need-add-at Inv-loop μ-loop
 add-at c = search needs
 
--- src/main.rt:65:5
 loop-less : tie.Need-loop-less Inv-loop μ-loop
 loop-less c = let line = c .before .before .before .before .before .before in omega (arith, line .line-end .ensures .1 (line .before .loop-test .taken))
 
--- src/main.rt:65:5
 loop-again : tie.Need-loop-again Inv-loop μ-loop
 loop-again c = search needs
 
--- src/main.rt:55:1
 returns : tie.Need-returns Inv-loop μ-loop
 returns c = search needs
 

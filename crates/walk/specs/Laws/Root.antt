@@ -14,6 +14,7 @@ use Rattle.orders.specs.Laws.Child.{Owes}
 use Rattle.orders.specs.Laws.Walk.{firstChild, enough, theTree}
 use Rattle.orders.specs.Laws.First.{first-fits}
 use Rattle.walk.specs.State.{standingAt, Unbegun, Stands}
+use Rattle.walk.specs.Choice.{Out, First}
 use Rattle.walk.specs.Switches.{switchOf, switchFor, Begins}
 use Rattle.walk.specs.Descent.{High, Twig, HangAsk, Hung}
 use Rattle.walk.specs.Tree.{Passed}
@@ -47,6 +48,10 @@ module _ (J : JobSet) where
 
 -- ---- the words in which no job has begun
 
+-- nothing is known of the jobs yet
+pub none-out : {w : List ℕ} {t : ℕ} → Loaded w → Out w t 0
+none-out L = record { loaded = L; inside = omega arith; out = λ i (h : i < 0). absurd (omega arith) }
+
 module _ (w s : List ℕ) (L : Loaded w) (U : Unbegun (setOf w) s) where
   abbrev J : JobSet
   J = setOf w
@@ -79,9 +84,10 @@ module _ (w s : List ℕ) (L : Loaded w) (U : Unbegun (setOf w) s) where
         record { near = omega (arith, L .few-segments, L .few-jobs); deep = omega (arith, L .few-segments, L .few-jobs) }
 
     -- what the descent asks at the root
-    pub root-ask : (depth cap : ℕ) → depth ≡ enough J → cap ≤ 1000001 → HangAsk w s x (record { nodes = 0; orders = 0 }) depth cap
-    root-ask depth cap e m = rw e (record {
+    pub root-ask : (depth cap next : ℕ) → depth ≡ enough J → cap ≤ 1000001 → First w s next → HangAsk w s x (record { nodes = 0; orders = 0 }) depth cap next 0
+    root-ask depth cap next e m N = rw e (record {
       loaded = L;
+      next = record { first = N; out = none-out L };
       room = record { nodes = omega arith; orders = omega arith; most = m };
       kind = FIRST;
       control = unbegun;

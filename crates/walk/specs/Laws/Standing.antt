@@ -34,7 +34,7 @@ module _ (s : List ℕ) (i : ℕ) (x : Standing) where
       (λ (l : m < i). word-below (4 * m + k) (omega arith))
       (λ (l : i ≤ m). word-above (4 * m + k) (omega arith))
 
-  first-other : (m : ℕ) → m ≢ i → getD (putAt s i x) (4 * m) 0 ≡ getD s (4 * m) 0
+  pub first-other : (m : ℕ) → m ≢ i → getD (putAt s i x) (4 * m) 0 ≡ getD s (4 * m) 0
   first-other m h = let e : 4 * m ≡ 4 * m + 0 = omega arith in rw e (word-other m 0 h (omega arith))
 
   standing-other : (m : ℕ) → m ≢ i → standingAt (putAt s i x) m ≡ standingAt s m

@@ -1,29 +1,22 @@
 use native.Mathlib.Omega.{arith}
-use mathlib.Core.Path.{sym, _∙_}
+use mathlib.Core.Path.{sym}
 use Rattle.kernel.specs.Laws.Clock.{done-some, done-none}
 use borrow.Author.Needs.{needs}
 use Rattle.services.proofs.ending.done.Statement.{statement}
 use Rattle.services.proofs.ending.done.Tie as tie
-use Rattle.services.proofs.ending.done.Reads as reads
-use Rattle.services.proofs.ending.done.Lts as lts
 
--- src/ending.rt:30:9
 returns : tie.Need-returns
 returns c = sym (done-none _ _ _ (c .if1 .taken))
 
--- src/ending.rt:33:16
 add-result : tie.Need-add-result
 add-result c = search needs
 
--- src/ending.rt:33:9
 returns-2 : tie.Need-returns-2
 returns-2 c = omega (arith, done-some (c .before .before .args .before) (c .before .before .args .release) (c .before .before .args .work) (omega (arith, c .before .if1 .left)), c .if2 .taken)
 
--- src/ending.rt:35:5
 add-result-2 : tie.Need-add-result-2
 add-result-2 c = search needs
 
--- src/ending.rt:25:1
 returns-3 : tie.Need-returns-3
 returns-3 c = omega (arith, done-some (c .before .before .args .before) (c .before .before .args .release) (c .before .before .args .work) (omega (arith, c .before .if1 .left)), c .if2 .left)
 

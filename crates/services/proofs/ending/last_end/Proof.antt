@@ -5,17 +5,10 @@ use native.Mathlib.Omega.{arith}
 use Rattle.kernel.specs.Words.{setOf}
 use Rattle.kernel.specs.Laws.Clock.{clock, doneAt}
 use Rattle.kernel.specs.Laws.Ending.{work}
-use Prim.Native.Nat.{ℕ, _+_, _*_, _-_, _≤_, _<_}
-use lib.ListN.{length}
+use Prim.Native.Nat.{_+_, _*_, _-_, _≤_, _<_}
 use borrow.Author.Needs.{needs}
 use Rattle.services.proofs.ending.last_end.Statement.{statement}
 use Rattle.services.proofs.ending.last_end.Tie as tie
-use Rattle.services.proofs.ending.last_end.Reads as reads
-use Rattle.services.proofs.ending.last_end.Lts as lts
-use Rattle.kernel.proofs.jobs.jobs.Reads as jobs-reads
-use Rattle.kernel.proofs.jobs.release.Reads as release-reads
-use Rattle.services.proofs.ending.done.Reads as done-reads
-use Rattle.services.proofs.ending.longest_work.Reads as longest-work-reads
 
 abbrev Inv-loop : tie.InvT-loop
 Inv-loop set n end₀ i₀ end i = (i ≤ n) × (n ≡ setOf set .jobs) × (end ≡ clock (setOf set .release) (work (setOf set) (setOf set .longest)) 0 i) × (end ≤ 1000000 + 64000000 * i)
@@ -23,26 +16,21 @@ Inv-loop set n end₀ i₀ end i = (i ≤ n) × (n ≡ setOf set .jobs) × (end 
 abbrev μ-loop : tie.MeasureT-loop
 μ-loop set n end₀ i₀ end i = n - i
 
--- src/ending.rt:42:9
 jobs-requires : tie.Need-jobs-requires Inv-loop μ-loop
 jobs-requires c κs = search needs
 
--- src/ending.rt:45:5
 loop-holds : tie.Need-loop-holds Inv-loop μ-loop
 loop-holds c = (omega arith, c .jobs .ensures, clock-start _ _ 0, omega arith)
 
--- src/ending.rt:46:25
 release-requires : tie.Need-release-requires Inv-loop μ-loop
 release-requires c κs = search needs
 
--- src/ending.rt:46:48
 longest-work-requires : tie.Need-longest-work-requires Inv-loop μ-loop
 longest-work-requires c κs =
     let loop = c .before .before in
     let inv = loop .loop .inv in
     (loop .before .before .pre, omega (arith, inv .1, c .before .loop-test .taken))
 
--- src/ending.rt:46:9
 done-requires : tie.Need-done-requires Inv-loop μ-loop
 done-requires c κs =
     let loop = c .before .before .before in
@@ -51,15 +39,12 @@ done-requires c κs =
     let h : loop .loop .i < setOf (loop .before .before .args .set .now) .jobs = omega (arith, inv .1, c .before .before .loop-test .taken) in
     (omega (arith, inv .3, inv .1, h, L .few-jobs), omega (arith, c .before .release .ensures, L .small-release (loop .loop .i) h, L .small-frame), omega (arith, c .longest-work .ensures, small-work _ L (loop .loop .i) h))
 
--- src/ending.rt:47:9
 add-i : tie.Need-add-i Inv-loop μ-loop
 add-i c = search needs
 
--- src/ending.rt:45:5
 loop-less : tie.Need-loop-less Inv-loop μ-loop
 loop-less c = search needs
 
--- src/ending.rt:45:5
 loop-again : tie.Need-loop-again Inv-loop μ-loop
 loop-again c =
     let loop = c .before .before .before .before in
@@ -75,7 +60,6 @@ loop-again c =
       omega (arith, done, done-most (loop .loop .end) (J .release i) (work J (J .longest) i), inv .3, small-work _ L i h, L .small-release i h, L .small-frame),
     )
 
--- src/ending.rt:38:1
 returns : tie.Need-returns Inv-loop μ-loop
 returns c =
     let inv = c .before .loop .inv in

@@ -3,16 +3,11 @@ use mathlib.Core.Path.{_≡_, refl}
 use native.Mathlib.Omega.{arith}
 use Rattle.kernel.specs.Jobs.{sum}
 use Rattle.kernel.specs.Words.{setOf}
-use Rattle.kernel.specs.Laws.Sums.{sum-none, sum-more, sum-all, sum-millions, one-of-sum}
-use Prim.Native.Nat.{_-_, _≤_, _<_}
-use lib.ListN.{length}
+use Rattle.kernel.specs.Laws.Sums.{sum-none, sum-more, sum-all, sum-millions}
+use Prim.Native.Nat.{_-_, _≤_}
 use borrow.Author.Needs.{needs}
 use Rattle.services.proofs.ending.longest_work.Statement.{statement}
 use Rattle.services.proofs.ending.longest_work.Tie as tie
-use Rattle.services.proofs.ending.longest_work.Reads as reads
-use Rattle.services.proofs.ending.longest_work.Lts as lts
-use Rattle.kernel.proofs.jobs.longest.Reads as longest-reads
-use Rattle.kernel.proofs.jobs.segments.Reads as segments-reads
 
 abbrev Inv-loop : tie.InvT-loop
 Inv-loop set i n total₀ k₀ total k = (k ≤ n) × (n ≡ setOf set .segments i) × (total ≡ sum (setOf set .longest i) k)
@@ -20,19 +15,15 @@ Inv-loop set i n total₀ k₀ total k = (k ≤ n) × (n ≡ setOf set .segments
 abbrev μ-loop : tie.MeasureT-loop
 μ-loop set i n total₀ k₀ total k = n - k
 
--- src/ending.rt:14:9
 segments-requires : tie.Need-segments-requires Inv-loop μ-loop
 segments-requires c κs = search needs
 
--- src/ending.rt:17:5
 loop-holds : tie.Need-loop-holds Inv-loop μ-loop
 loop-holds c = (omega arith, c .segments .ensures, sum-none _)
 
--- src/ending.rt:18:25
 longest-requires : tie.Need-longest-requires Inv-loop μ-loop
 longest-requires c κs = search needs
 
--- src/ending.rt:18:17
 add-total : tie.Need-add-total Inv-loop μ-loop
 add-total c =
     let inv = c .before .before .loop .inv in
@@ -42,21 +33,17 @@ add-total c =
     let here = c .before .loop-test .taken in
     omega (arith, inv .1, inv .2, here, c .longest .ensures, few-of-job _ (pre .0) i (pre .1), sum-millions (J .longest i) (c .before .before .loop .k) (λ k h. pre .0 .small-times i k (pre .1) (omega (arith, inv .1, here))), pre .0 .small-times i (c .before .before .loop .k) (pre .1) (omega (arith, inv .1, here)))
 
--- src/ending.rt:19:9
 add-k : tie.Need-add-k Inv-loop μ-loop
 add-k c = search needs
 
--- src/ending.rt:17:5
 loop-less : tie.Need-loop-less Inv-loop μ-loop
 loop-less c = search needs
 
--- src/ending.rt:17:5
 loop-again : tie.Need-loop-again Inv-loop μ-loop
 loop-again c =
     let inv = c .before .before .loop .inv in
     (omega (arith, c .before .loop-test .taken), inv .1, sum-more _ _ _ _ _ (inv .2) (c .longest .ensures) refl)
 
--- src/ending.rt:10:1
 returns : tie.Need-returns Inv-loop μ-loop
 returns c =
     let inv = c .before .loop .inv in

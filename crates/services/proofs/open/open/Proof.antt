@@ -3,40 +3,27 @@ use Rattle.services.proofs.Opening.{sound-read, declined-read, late-rea
 use borrow.Author.Needs.{needs}
 use Rattle.services.proofs.open.open.Statement.{statement}
 use Rattle.services.proofs.open.open.Tie as tie
-use Rattle.services.proofs.open.open.Reads as reads
-use Rattle.services.proofs.open.open.Lts as lts
-use Rattle.jobset.proofs.load.Reads as load-reads
-use Rattle.kernel.proofs.jobs.frame.Reads as frame-reads
-use Rattle.services.proofs.ending.last_end.Reads as last-end-reads
-use Rattle.table.proofs.Table.read.Reads as read-reads
 
--- src/open.rt:15:9
 read-requires : tie.Need-read-requires
 read-requires c κs = search needs
 
--- src/open.rt:17:9
 returns : tie.Need-returns
 returns c = declined-read _ (c .before .before .read .result) (c .before .before .read .ensures) (c .if1 .taken)
 
--- src/open.rt:19:15
 load-requires : tie.Need-load-requires
 load-requires c κs = sound-read _ (c .before .before .read .result) (c .before .before .read .ensures) (c .if1 .left)
 
--- src/open.rt:20:8
 frame-requires : tie.Need-frame-requires
 frame-requires c κs = search needs
 
--- src/open.rt:20:28
 last-end-requires : tie.Need-last-end-requires
 last-end-requires c κs = search needs
 
--- src/open.rt:21:9
 returns-2 : tie.Need-returns-2
 returns-2 c =
     let load = c .before .before .before .before .before in
     late-read _ (load .before .before .before .read .result) (load .before .before .before .read .ensures) (load .load .result) (load .load .ensures) (load .before .if1 .left) (omega (arith, c .if2 .taken, c .before .last-end .ensures, c .before .before .before .frame .ensures))
 
--- src/open.rt:12:1
 returns-3 : tie.Need-returns-3
 returns-3 c =
     let load = c .before .before .before .before .before in

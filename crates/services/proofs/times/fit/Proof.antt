@@ -3,24 +3,16 @@ use Rattle.services.proofs.Fit.{tells-no, fit-tells}
 use borrow.Author.Needs.{needs}
 use Rattle.services.proofs.times.fit.Statement.{statement}
 use Rattle.services.proofs.times.fit.Tie as tie
-use Rattle.services.proofs.times.fit.Reads as reads
-use Rattle.services.proofs.times.fit.Lts as lts
-use Rattle.services.proofs.times.fit_jobs.Reads as fit-jobs-reads
-use Rattle.services.proofs.times.segments.Reads as segments-reads
 
--- src/times.rt:60:23
 segments-requires : tie.Need-segments-requires
 segments-requires c κs = search needs
 
--- src/times.rt:61:9
 returns : tie.Need-returns
 returns c = tells-no _ (λ F. c .if1 .taken (F .count ∙ sym (c .before .segments .ensures)))
 
--- src/times.rt:63:5
 fit-jobs-requires : tie.Need-fit-jobs-requires
 fit-jobs-requires c κs = search needs
 
--- src/times.rt:56:1
 returns-2 : tie.Need-returns-2
 returns-2 c = fit-tells _ (c .before .before .before .before .pre) _ _ (c .before .if1 .left ∙ c .before .before .segments .ensures) (c .fit-jobs .ensures)
 

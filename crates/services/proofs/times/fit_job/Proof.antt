@@ -5,16 +5,9 @@ use Rattle.services.specs.Times.{FitAt}
 use Rattle.kernel.specs.Laws.Tests.{below}
 use Rattle.services.proofs.Fit.{tells-yes, tells-no}
 use Prim.Native.Nat.{ℕ, _-_, _≤_, _<_}
-use lib.ListN.{length}
 use borrow.Author.Needs.{needs}
 use Rattle.services.proofs.times.fit_job.Statement.{statement}
 use Rattle.services.proofs.times.fit_job.Tie as tie
-use Rattle.services.proofs.times.fit_job.Reads as reads
-use Rattle.services.proofs.times.fit_job.Lts as lts
-use Rattle.kernel.proofs.jobs.longest.Reads as longest-reads
-use Rattle.kernel.proofs.jobs.segments.Reads as segments-reads
-use Rattle.kernel.proofs.jobs.shortest.Reads as shortest-reads
-use Rattle.kernel.proofs.jobs.time.Reads as time-reads
 
 abbrev Inv-loop : tie.InvT-loop
 Inv-loop set times i n k₀ k = (k ≤ n) × (n ≡ setOf set .segments i) × ((j : ℕ) → j < k → FitAt set times i j)
@@ -22,47 +15,37 @@ Inv-loop set times i n k₀ k = (k ≤ n) × (n ≡ setOf set .segments i) × ((
 abbrev μ-loop : tie.MeasureT-loop
 μ-loop set times i n k₀ k = n - k
 
--- src/times.rt:27:9
 segments-requires : tie.Need-segments-requires Inv-loop μ-loop
 segments-requires c κs = search needs
 
--- src/times.rt:29:5
 loop-holds : tie.Need-loop-holds Inv-loop μ-loop
 loop-holds c = (omega arith, c .segments .ensures, λ j h. absurd (omega arith))
 
--- src/times.rt:30:13
 time-requires : tie.Need-time-requires Inv-loop μ-loop
 time-requires c κs = search needs
 
--- src/times.rt:31:19
 shortest-requires : tie.Need-shortest-requires Inv-loop μ-loop
 shortest-requires c κs = search needs
 
--- src/times.rt:32:13
 returns : tie.Need-returns Inv-loop μ-loop
 returns c =
     let loop = c .before .before .before .before in
     tells-no _ (λ F. omega (arith, F (loop .loop .k) (omega (arith, loop .loop .inv .1, c .before .before .before .loop-test .taken)) .0, c .if1 .taken, c .before .before .time .ensures, c .before .shortest .ensures))
 
--- src/times.rt:34:12
 longest-requires : tie.Need-longest-requires Inv-loop μ-loop
 longest-requires c κs = search needs
 
--- src/times.rt:35:13
 returns-2 : tie.Need-returns-2 Inv-loop μ-loop
 returns-2 c =
     let loop = c .before .before .before .before .before .before in
     tells-no _ (λ F. omega (arith, F (loop .loop .k) (omega (arith, loop .loop .inv .1, c .before .before .before .before .before .loop-test .taken)) .1, c .if2 .taken, c .before .before .before .before .time .ensures, c .before .longest .ensures))
 
--- src/times.rt:37:9
 add-k : tie.Need-add-k Inv-loop μ-loop
 add-k c = search needs
 
--- src/times.rt:29:5
 loop-less : tie.Need-loop-less Inv-loop μ-loop
 loop-less c = search needs
 
--- src/times.rt:29:5
 loop-again : tie.Need-loop-again Inv-loop μ-loop
 loop-again c =
     let loop = c .before .before .before .before .before .before in
@@ -74,7 +57,6 @@ loop-again c =
           (omega (arith, c .before .before .before .shortest .ensures, c .before .before .if1 .left, c .before .before .before .before .time .ensures), omega (arith, c .before .longest .ensures, c .if2 .left, c .before .before .before .before .time .ensures)) j (omega arith),
     )
 
--- src/times.rt:24:1
 returns-3 : tie.Need-returns-3 Inv-loop μ-loop
 returns-3 c =
     let inv = c .before .loop .inv in

@@ -6,14 +6,9 @@ use Rattle.services.specs.Times.{FitJob}
 use Rattle.kernel.specs.Laws.Tests.{below}
 use Rattle.services.proofs.Fit.{tells-yes, tells-no}
 use Prim.Native.Nat.{ℕ, _-_, _≤_, _<_}
-use lib.ListN.{length}
 use borrow.Author.Needs.{needs}
 use Rattle.services.proofs.times.fit_jobs.Statement.{statement}
 use Rattle.services.proofs.times.fit_jobs.Tie as tie
-use Rattle.services.proofs.times.fit_jobs.Reads as reads
-use Rattle.services.proofs.times.fit_jobs.Lts as lts
-use Rattle.kernel.proofs.jobs.jobs.Reads as jobs-reads
-use Rattle.services.proofs.times.fit_job.Reads as fit-job-reads
 
 abbrev Inv-loop : tie.InvT-loop
 Inv-loop set times n i₀ i = (i ≤ n) × (n ≡ setOf set .jobs) × ((j : ℕ) → j < i → FitJob set times j)
@@ -21,33 +16,26 @@ Inv-loop set times n i₀ i = (i ≤ n) × (n ≡ setOf set .jobs) × ((j : ℕ)
 abbrev μ-loop : tie.MeasureT-loop
 μ-loop set times n i₀ i = n - i
 
--- src/times.rt:45:9
 jobs-requires : tie.Need-jobs-requires Inv-loop μ-loop
 jobs-requires c κs = search needs
 
--- src/times.rt:47:5
 loop-holds : tie.Need-loop-holds Inv-loop μ-loop
 loop-holds c = (omega arith, c .jobs .ensures, λ j h. absurd (omega arith))
 
--- src/times.rt:48:13
 fit-job-requires : tie.Need-fit-job-requires Inv-loop μ-loop
 fit-job-requires c κs = search needs
 
--- src/times.rt:49:13
 returns : tie.Need-returns Inv-loop μ-loop
 returns c =
     let loop = c .before .before .before in
     tells-no _ (λ F. c .before .fit-job .ensures .no (not-true _ (c .if1 .taken)) (F (loop .loop .i) (omega (arith, loop .loop .inv .1, c .before .before .loop-test .taken))))
 
--- src/times.rt:51:9
 add-i : tie.Need-add-i Inv-loop μ-loop
 add-i c = search needs
 
--- src/times.rt:47:5
 loop-less : tie.Need-loop-less Inv-loop μ-loop
 loop-less c = search needs
 
--- src/times.rt:47:5
 loop-again : tie.Need-loop-again Inv-loop μ-loop
 loop-again c =
     let loop = c .before .before .before in
@@ -58,7 +46,6 @@ loop-again c =
       λ j h. below (FitJob (start .args .set .now) (start .args .times .now)) (loop .loop .i) (inv .2) (c .before .fit-job .ensures .yes (not-false _ (c .if1 .left))) j (omega arith),
     )
 
--- src/times.rt:42:1
 returns-2 : tie.Need-returns-2 Inv-loop μ-loop
 returns-2 c =
     let inv = c .before .loop .inv in

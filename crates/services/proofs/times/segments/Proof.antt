@@ -4,15 +4,10 @@ use native.Mathlib.Omega.{arith}
 use Rattle.kernel.specs.Jobs.{sum}
 use Rattle.kernel.specs.Words.{setOf}
 use Rattle.kernel.specs.Laws.Sums.{sum-none, sum-more, sum-all, sum-rises}
-use Prim.Native.Nat.{_-_, _≤_, _<_}
-use lib.ListN.{length}
+use Prim.Native.Nat.{_-_, _≤_}
 use borrow.Author.Needs.{needs}
 use Rattle.services.proofs.times.segments.Statement.{statement}
 use Rattle.services.proofs.times.segments.Tie as tie
-use Rattle.services.proofs.times.segments.Reads as reads
-use Rattle.services.proofs.times.segments.Lts as lts
-use Rattle.kernel.proofs.jobs.jobs.Reads as jobs-reads
-use Rattle.kernel.proofs.jobs.segments.Reads as segments-reads
 
 abbrev Inv-loop : tie.InvT-loop
 Inv-loop set n total₀ i₀ total i = (i ≤ n) × (n ≡ setOf set .jobs) × (total ≡ sum (setOf set .segments) i) × (total ≤ 64)
@@ -20,35 +15,27 @@ Inv-loop set n total₀ i₀ total i = (i ≤ n) × (n ≡ setOf set .jobs) × (
 abbrev μ-loop : tie.MeasureT-loop
 μ-loop set n total₀ i₀ total i = n - i
 
--- src/times.rt:13:9
 jobs-requires : tie.Need-jobs-requires Inv-loop μ-loop
 jobs-requires c κs = search needs
 
--- src/times.rt:16:5
 loop-holds : tie.Need-loop-holds Inv-loop μ-loop
 loop-holds c = (omega arith, c .jobs .ensures, sum-none _, omega arith)
 
--- src/times.rt:17:25
 segments-requires : tie.Need-segments-requires Inv-loop μ-loop
 segments-requires c κs = search needs
 
--- src/times.rt:17:25
 cast-total : tie.Need-cast-total Inv-loop μ-loop
 cast-total c = search needs
 
--- src/times.rt:17:17
 add-total : tie.Need-add-total Inv-loop μ-loop
 add-total c = search needs
 
--- src/times.rt:18:9
 add-i : tie.Need-add-i Inv-loop μ-loop
 add-i c = search needs
 
--- src/times.rt:16:5
 loop-less : tie.Need-loop-less Inv-loop μ-loop
 loop-less c = search needs
 
--- src/times.rt:16:5
 loop-again : tie.Need-loop-again Inv-loop μ-loop
 loop-again c =
     let inv = c .before .before .loop .inv in
@@ -58,7 +45,6 @@ loop-again c =
     let more = sum-more (J .segments) i _ _ _ (inv .2) (c .segments .ensures) refl in
     (omega (arith, c .before .loop-test .taken), inv .1, more, omega (arith, more, sum-rises (J .segments) (i + 1) (J .jobs) (omega (arith, inv .1, c .before .loop-test .taken)), pre .few-segments))
 
--- src/times.rt:9:1
 returns : tie.Need-returns Inv-loop μ-loop
 returns c =
     let inv = c .before .loop .inv in

@@ -4,70 +4,51 @@ use Rattle.services.proofs.Credits.{credit-none, credit-inside, credit-
 use borrow.Author.Needs.{needs}
 use Rattle.services.proofs.told.credit.Statement.{statement}
 use Rattle.services.proofs.told.credit.Tie as tie
-use Rattle.services.proofs.told.credit.Reads as reads
-use Rattle.services.proofs.told.credit.Lts as lts
-use Rattle.kernel.proofs.jobs.first.Reads as first-reads
-use Rattle.kernel.proofs.jobs.segments.Reads as segments-reads
-use Rattle.services.proofs.told.add.Reads as add-reads
-use Rattle.services.proofs.told.less.Reads as less-reads
 
--- src/told.rt:45:22
 segments-requires : tie.Need-segments-requires
 segments-requires c κs = search needs
 
--- src/told.rt:46:18
 first-requires : tie.Need-first-requires
 first-requires c κs = search needs
 
--- src/told.rt:46:18
 cast-at : tie.Need-cast-at
 cast-at c = search needs
 
--- src/told.rt:46:55
 cast-at-2 : tie.Need-cast-at-2
 cast-at-2 c = search needs
 
--- src/told.rt:46:18
 add-at : tie.Need-add-at
 add-at c = search needs
 
--- src/told.rt:47:25
 mul-add : tie.Need-mul-add
 mul-add c = search needs
 
--- src/told.rt:47:25
 element-copy-out-add : tie.Need-element-copy-out-add
 element-copy-out-add c =
     let then = c .before .before in
     let start = then .before .before .before in
     credit-inside _ (start .args .ran) (start .args .tick) (start .args .times .now) _ _ (start .pre) (then .before .before .segments .ensures) (then .if1 .taken) (c .before .first .ensures)
 
--- src/told.rt:47:36
 less-requires : tie.Need-less-requires
 less-requires c κs = search needs
 
--- src/told.rt:47:21
 add-requires : tie.Need-add-requires
 add-requires c κs = search needs
 
--- src/told.rt:47:9
 mul-times : tie.Need-mul-times
 mul-times c = search needs
 
--- src/told.rt:47:9
 element-write-times : tie.Need-element-write-times
 element-write-times c =
     let then = c .before .before .before .before .before in
     let start = then .before .before .before in
     credit-inside _ (start .args .ran) (start .args .tick) (start .args .times .now) _ _ (start .pre) (then .before .before .segments .ensures) (then .if1 .taken) (c .before .before .before .before .first .ensures)
 
--- src/told.rt:41:1
 returns : tie.Need-returns
 returns c =
     let then = c .before .before .before .before .before in
     credit-done _ _ _ _ _ _ _ _ (then .before .before .segments .ensures) (then .if1 .taken) (c .before .before .before .before .first .ensures) (c .before .less .ensures) (c .add .ensures)
 
--- src/told.rt:41:1
 returns-2 : tie.Need-returns-2
 returns-2 c =
     sym (credit-none _ _ _ _ (omega (arith, c .if1 .left, c .before .before .segments .ensures)))

@@ -5,20 +5,13 @@ use native.Mathlib.Omega.{arith}
 use borrow.Author.Needs.{needs}
 use Rattle.services.proofs.told.next.Statement.{statement}
 use Rattle.services.proofs.told.next.Tie as tie
-use Rattle.services.proofs.told.next.Reads as reads
-use Rattle.services.proofs.told.next.Lts as lts
-use Rattle.kernel.proofs.jobs.release.Reads as release-reads
-use Rattle.services.proofs.told.larger.Reads as larger-reads
 
--- src/told.rt:60:29
 release-requires : tie.Need-release-requires
 release-requires c κs = search needs
 
--- src/told.rt:60:16
 larger-requires : tie.Need-larger-requires
 larger-requires c κs = search needs
 
--- src/told.rt:53:1
 returns : tie.Need-returns
 returns c =
     let start = c .before .before in

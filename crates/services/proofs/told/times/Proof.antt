@@ -1,18 +1,11 @@
-use Rattle.services.specs.declared.told.Ran.{Ran}
 use Rattle.services.proofs.Entries.{Reads, reads-none, reads-next, reads-all}
 use mathlib.Core.Path.{_≡_, refl}
 use lib.ListN.{length}
-use Prim.Native.Nat.{ℕ, _+_, _-_, _*_, _/_, _≤_, _<_}
+use Prim.Native.Nat.{_-_, _/_}
 use native.Mathlib.Omega.{arith}
 use borrow.Author.Needs.{needs}
 use Rattle.services.proofs.told.times.Statement.{statement}
 use Rattle.services.proofs.told.times.Tie as tie
-use Rattle.services.proofs.told.times.Reads as reads
-use Rattle.services.proofs.told.times.Lts as lts
-use Rattle.kernel.proofs.jobs.jobs.Reads as jobs-reads
-use Rattle.kernel.proofs.jobs.word_at.Reads as word-at-reads
-use Rattle.services.proofs.told.credit.Reads as credit-reads
-use Rattle.services.proofs.told.next.Reads as next-reads
 
 abbrev Inv-loop : tie.InvT-loop
 Inv-loop set log times₀ n ran₀ i₀ times ran i = (n ≡ length log / 4) × Reads set log times ran i
@@ -20,69 +13,53 @@ Inv-loop set log times₀ n ran₀ i₀ times ran i = (n ≡ length log / 4) × 
 abbrev μ-loop : tie.MeasureT-loop
 μ-loop set log times₀ n ran₀ i₀ times ran i = n - i
 
--- src/told.rt:70:14
 jobs-requires : tie.Need-jobs-requires Inv-loop μ-loop
 jobs-requires c κs = search needs
 
--- src/told.rt:75:5
 loop-holds : tie.Need-loop-holds Inv-loop μ-loop
 loop-holds c =
     let start = c .before .before in
     (refl, reads-none _ _ _ _ (start .pre .0) (start .pre .1) (λ z. record { job = c .jobs .ensures z; segment = 0; since = 0 }))
 
--- src/told.rt:76:39
 mul-word-at : tie.Need-mul-word-at Inv-loop μ-loop
 mul-word-at c = search needs
 
--- src/told.rt:76:39
 add-word-at : tie.Need-add-word-at Inv-loop μ-loop
 add-word-at c = search needs
 
--- src/told.rt:76:13
 word-at-requires : tie.Need-word-at-requires Inv-loop μ-loop
 word-at-requires c κs = search needs
 
--- src/told.rt:77:9
 credit-requires : tie.Need-credit-requires Inv-loop μ-loop
 credit-requires c κs = search needs
 
--- src/told.rt:81:32
 mul-word-at-2 : tie.Need-mul-word-at-2 Inv-loop μ-loop
 mul-word-at-2 c = search needs
 
--- src/told.rt:81:32
 add-word-at-2 : tie.Need-add-word-at-2 Inv-loop μ-loop
 add-word-at-2 c = search needs
 
--- src/told.rt:81:13
 word-at-requires-2 : tie.Need-word-at-requires-2 Inv-loop μ-loop
 word-at-requires-2 c κs = search needs
 
--- src/told.rt:82:32
 mul-word-at-3 : tie.Need-mul-word-at-3 Inv-loop μ-loop
 mul-word-at-3 c = search needs
 
--- src/told.rt:82:32
 add-word-at-3 : tie.Need-add-word-at-3 Inv-loop μ-loop
 add-word-at-3 c = search needs
 
--- src/told.rt:82:13
 word-at-requires-3 : tie.Need-word-at-requires-3 Inv-loop μ-loop
 word-at-requires-3 c κs = search needs
 
--- src/told.rt:78:9
 next-requires : tie.Need-next-requires Inv-loop μ-loop
 next-requires c κs = search needs
 
--- src/told.rt:84:9
 add-i : tie.Need-add-i Inv-loop μ-loop
 add-i c = search needs
 
--- src/told.rt:75:5
 loop-less : tie.Need-loop-less Inv-loop μ-loop
 loop-less c = search needs
 
--- src/told.rt:75:5
 loop-again : tie.Need-loop-again Inv-loop μ-loop
 loop-again c =
     let word = c .before .before .before .before .before in
@@ -93,7 +70,6 @@ loop-again c =
           (word .word-at .ensures) (c .before .before .word-at2 .ensures) (c .before .word-at3 .ensures) (c .before .before .before .credit .ensures) (c .next .ensures),
     )
 
--- src/told.rt:64:1
 returns : tie.Need-returns Inv-loop μ-loop
 returns c =
     let loop = c .before in

@@ -1,20 +1,14 @@
 use native.Mathlib.Omega.{arith}
-use mathlib.Core.Path.{_≡_, ap}
-use Rattle.table.specs.Part.{startOf, lengthOf}
+use mathlib.Core.Path.{ap}
 use Rattle.table.specs.declared.Extent.{Extent}
 use Rattle.table.proofs.Parts.{there-fits, at-job}
 use borrow.Author.Needs.{needs}
 use Rattle.table.proofs.Table.part.Statement.{statement}
 use Rattle.table.proofs.Table.part.Tie as tie
-use Rattle.table.proofs.Table.part.Reads as reads
-use Rattle.table.proofs.Table.part.Lts as lts
-use Rattle.table.proofs.Table.extent.Reads as extent-reads
 
--- src/lib.rt:208:13
 extent-requires : tie.Need-extent-requires
 extent-requires c κs = search needs
 
--- src/lib.rt:210:19
 add-end : tie.Need-add-end
 add-end c =
     let start = c .before .before .before in
@@ -22,15 +16,12 @@ add-end c =
     let d = ap (λ (x : Extent). x .length) (c .before .extent .ensures) in
     omega (arith, e, d, there-fits (start .args .bytes .now) (start .args .job), start .good)
 
--- src/lib.rt:211:9
 sub-result : tie.Need-sub-result
 sub-result c = search needs
 
--- src/lib.rt:211:9
 part-result-start : tie.Need-part-result-start
 part-result-start c = search needs
 
--- src/lib.rt:211:9
 part-result-end : tie.Need-part-result-end
 part-result-end c =
     let start = c .before .before .before in
@@ -38,7 +29,6 @@ part-result-end c =
     let d = ap (λ (x : Extent). x .length) (c .before .extent .ensures) in
     omega (arith, e, d, there-fits (start .args .bytes .now) (start .args .job))
 
--- src/lib.rt:205:5
 returns : tie.Need-returns
 returns c =
     let start = c .before .before .before .before in

@@ -1,10 +1,8 @@
-use Prim.Native.Nat.{_-_, _≤_, _<_}
+use Prim.Native.Nat.{_-_, _≤_}
 use lib.ListN.{length}
 use borrow.Author.Needs.{needs}
 use Rattle.transcript.proofs.call.untouched.Statement.{statement}
 use Rattle.transcript.proofs.call.untouched.Tie as tie
-use Rattle.transcript.proofs.call.untouched.Reads as reads
-use Rattle.transcript.proofs.call.untouched.Lts as lts
 
 abbrev Inv-loop : tie.InvT-loop
 Inv-loop words n i₀ i = n ≤ i
@@ -12,35 +10,27 @@ Inv-loop words n i₀ i = n ≤ i
 abbrev μ-loop : tie.MeasureT-loop
 μ-loop words n i₀ i = length words - i
 
--- src/call.rt:18:5
 loop-holds : tie.Need-loop-holds Inv-loop μ-loop
 loop-holds c = search needs
 
--- src/call.rt:19:12
 mul-if1 : tie.Need-mul-if1 Inv-loop μ-loop
 mul-if1 c = search needs
 
--- src/call.rt:19:12
 shared-slice-read-if1 : tie.Need-shared-slice-read-if1 Inv-loop μ-loop
 shared-slice-read-if1 c = search needs
 
--- src/call.rt:20:13
 returns : tie.Need-returns Inv-loop μ-loop
 returns c = search needs
 
--- src/call.rt:22:9
 add-i : tie.Need-add-i Inv-loop μ-loop
 add-i c = search needs
 
--- src/call.rt:18:5
 loop-less : tie.Need-loop-less Inv-loop μ-loop
 loop-less c = search needs
 
--- src/call.rt:18:5
 loop-again : tie.Need-loop-again Inv-loop μ-loop
 loop-again c = search needs
 
--- src/call.rt:16:1
 returns-2 : tie.Need-returns-2 Inv-loop μ-loop
 returns-2 c = search needs
 

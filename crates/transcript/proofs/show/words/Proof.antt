@@ -1,11 +1,8 @@
-use Prim.Native.Nat.{_-_, _≤_, _<_}
+use Prim.Native.Nat.{_-_, _≤_}
 use lib.ListN.{length}
 use borrow.Author.Needs.{needs}
 use Rattle.transcript.proofs.show.words.Statement.{statement}
 use Rattle.transcript.proofs.show.words.Tie as tie
-use Rattle.transcript.proofs.show.words.Reads as reads
-use Rattle.transcript.proofs.show.words.Lts as lts
-use Rattle.transcript.proofs.show.word.Reads as word-reads
 
 abbrev Inv-loop : tie.InvT-loop
 Inv-loop row n i₀ i = i ≤ length row
@@ -13,35 +10,27 @@ Inv-loop row n i₀ i = i ≤ length row
 abbrev μ-loop : tie.MeasureT-loop
 μ-loop row n i₀ i = length row - i
 
--- src/show.rt:26:5
 loop-holds : tie.Need-loop-holds Inv-loop μ-loop
 loop-holds c = search needs
 
--- src/show.rt:28:18
 mul-word : tie.Need-mul-word Inv-loop μ-loop
 mul-word c = search needs
 
--- src/show.rt:28:18
 shared-slice-read-word : tie.Need-shared-slice-read-word Inv-loop μ-loop
 shared-slice-read-word c = search needs
 
--- src/show.rt:28:13
 word-requires : tie.Need-word-requires Inv-loop μ-loop
 word-requires c κs = search needs
 
--- src/show.rt:30:9
 add-i : tie.Need-add-i Inv-loop μ-loop
 add-i c = search needs
 
--- src/show.rt:26:5
 loop-less : tie.Need-loop-less Inv-loop μ-loop
 loop-less c = search needs
 
--- src/show.rt:26:5
 loop-again : tie.Need-loop-again Inv-loop μ-loop
 loop-again c = search needs
 
--- src/show.rt:24:1
 returns : tie.Need-returns Inv-loop μ-loop
 returns c = search needs
 

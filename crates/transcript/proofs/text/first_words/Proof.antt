@@ -3,18 +3,13 @@ use lib.Seq.{length-take-le}
 use borrow.Author.Needs.{needs}
 use Rattle.transcript.proofs.text.first_words.Statement.{statement}
 use Rattle.transcript.proofs.text.first_words.Tie as tie
-use Rattle.transcript.proofs.text.first_words.Reads as reads
-use Rattle.transcript.proofs.text.first_words.Lts as lts
 
--- src/text.rt:107:9
 slice-aggregate-result : tie.Need-slice-aggregate-result
 slice-aggregate-result c = sym (length-take-le _ _ (c .before .if1 .taken))
 
--- src/text.rt:107:9
 returns : tie.Need-returns
 returns c = search needs
 
--- src/text.rt:105:1
 returns-2 : tie.Need-returns-2
 returns-2 c = search needs
 

@@ -1,28 +1,36 @@
-use Prim.Native.Nat.{_-_, _≤_}
+use Prim.Native.Nat.{ℕ, _+_, _-_, _*_, _/_, _≤_, _<_}
 use native.Mathlib.Omega.{arith}
 use mathlib.Core.Path.{_≡_}
+use lib.ListN.{getD}
 use borrow.Author.Needs.{needs}
 use Rattle.kernel.specs.Words.{setOf}
-use Rattle.walk.specs.Laws.Keyed.{AbovesBelow, aboves-none, aboves-more, aboves}
+use Rattle.kernel.specs.Laws.Tests.{below}
+use Rattle.walk.specs.Laws.Keyed.{NoneAbove, aboves-none, aboves-some}
 use Rattle.walk.proofs.choice.above.Statement.{statement}
 use Rattle.walk.proofs.choice.above.Tie as tie
 
 abbrev Inv-loop : tie.InvT-loop
-Inv-loop set state a w e n first₀ i₀ first i = (i ≤ n) × (n ≡ setOf set .jobs) × AbovesBelow set state a w e first i
+Inv-loop set state out w e n i₀ i = (n ≡ setOf set .jobs) × (out ≤ i) × NoneAbove state out w i
 
 abbrev μ-loop : tie.MeasureT-loop
-μ-loop set state a w e n first₀ i₀ first i = n - i
+μ-loop set state out w e n i₀ i = n - i
 
 jobs-requires : tie.Need-jobs-requires Inv-loop μ-loop
 jobs-requires c κs = search needs
 
 loop-holds : tie.Need-loop-holds Inv-loop μ-loop
 loop-holds c =
-    let entry = c .before in
-    (omega arith, c .jobs .ensures, aboves-none (entry .args .set .now) (entry .args .state .now) (entry .pre) _ _ _)
+    (c .jobs .ensures, omega arith, λ j (h : c .before .args .out ≤ j) (q : j < c .before .args .out). absurd (omega arith))
 
 release-requires : tie.Need-release-requires Inv-loop μ-loop
 release-requires c κs = search needs
+
+returns : tie.Need-returns Inv-loop μ-loop
+returns c =
+    let at = c .before .before .before in
+    let entry = at .before .before in
+    let inv = at .loop .inv in
+    aboves-none (entry .args .set .now) (entry .args .state .now) (entry .pre) _ _ _ (at .loop .i) (inv .2) (λ h. omega (arith, c .if1 .taken, c .before .release .ensures))
 
 mul-word-at : tie.Need-mul-word-at Inv-loop μ-loop
 mul-word-at c = search needs
@@ -30,8 +38,16 @@ mul-word-at c = search needs
 word-at-requires : tie.Need-word-at-requires Inv-loop μ-loop
 word-at-requires c κs = search needs
 
-earlier-requires : tie.Need-earlier-requires Inv-loop μ-loop
-earlier-requires c κs = search needs
+returns-2 : tie.Need-returns-2 Inv-loop μ-loop
+returns-2 c =
+    let word = c .before in
+    let test = word .before .before in
+    let at = test .before .before .before in
+    let entry = at .before .before in
+    let inv = at .loop .inv in
+    rw (test .before .release .ensures)
+    (aboves-some (entry .args .set .now) (entry .args .state .now) (entry .pre) _ _ _ (at .loop .i) (inv .2) (omega (arith, inv .0, test .before .before .loop-test .taken)) (inv .1)
+    (omega (arith, test .if1 .left, test .before .release .ensures)) (rw (word .word-at .ensures) at (c .if2 .taken)))
 
 add-i : tie.Need-add-i Inv-loop μ-loop
 add-i c = search needs
@@ -41,22 +57,22 @@ loop-less c = search needs
 
 loop-again : tie.Need-loop-again Inv-loop μ-loop
 loop-again c =
-    let at = c .before .before .before .before .before in
-    let entry = at .before .before in
+    let word = c .before in
+    let at = word .before .before .before .before .before in
     let inv = at .loop .inv in
-    let inside = c .before .before .before .before .loop-test .taken in (
-      omega arith,
-      inv .1,
-      aboves-more (entry .args .set .now) (entry .args .state .now) (entry .pre) _ _ _ (at .loop .i) _ _ _ _ (omega (arith, inv .1)) (inv .2)
-          (c .before .before .before .release .ensures) (c .before .word-at .ensures) (c .earlier .ensures),
+    let i = at .loop .i in (
+      inv .0,
+      omega (arith, inv .1),
+      λ j (p : at .before .before .args .out ≤ j) (h : j < i + 1). below (λ j. at .before .before .args .out ≤ j → getD (at .before .before .args .state .now) (4 * j) 0 / 32 ≤ at .before .before .args .w) i (λ j q p. inv .2 j p q)
+          (λ p. rw (word .word-at .ensures) at (c .if2 .left)) j (omega arith) p,
     )
 
-returns : tie.Need-returns Inv-loop μ-loop
-returns c =
+returns-3 : tie.Need-returns-3 Inv-loop μ-loop
+returns-3 c =
     let at = c .before in
     let entry = at .before .before in
     let inv = at .loop .inv in
-    aboves (entry .args .set .now) (entry .args .state .now) (entry .pre) _ _ _ _ (at .loop .i) (omega (arith, inv .1)) (omega (arith, inv .1, c .loop-test .left)) (inv .2)
+    aboves-none (entry .args .set .now) (entry .args .state .now) (entry .pre) _ _ _ (at .loop .i) (inv .2) (λ h. absurd (omega (arith, inv .0, c .loop-test .left)))
 
 pub above-spec : {M : Type 1} → statement M
 above-spec =
@@ -67,10 +83,11 @@ above-spec =
     jobs-requires
     loop-holds
     release-requires
+    returns
     mul-word-at
     word-at-requires
-    earlier-requires
+    returns-2
     add-i
     loop-less
     loop-again
-    returns)
+    returns-3)

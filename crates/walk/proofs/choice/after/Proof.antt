@@ -1,27 +1,36 @@
 use borrow.Author.Needs.{needs}
-use Rattle.walk.specs.Laws.Keyed.{follows}
+use Rattle.walk.specs.Laws.Keyed.{follows, follows-none}
 use Rattle.walk.proofs.choice.after.Statement.{statement}
 use Rattle.walk.proofs.choice.after.Tie as tie
 
-first-unfinished-requires : tie.Need-first-unfinished-requires
-first-unfinished-requires c κs = search needs
-
-release-requires : tie.Need-release-requires
-release-requires c κs = search needs
-
-larger-requires : tie.Need-larger-requires
-larger-requires c κs = search needs
-
-pick-requires : tie.Need-pick-requires
-pick-requires c κs = search needs
+jobs-requires : tie.Need-jobs-requires
+jobs-requires c κs = search needs
 
 returns : tie.Need-returns
 returns c =
-    let entry = c .before .before .before .before in
-    follows (entry .args .set .now) (entry .args .state .now) (entry .pre) _ _ _ _ _ (c .before .before .before .first-unfinished .ensures)
-    (c .before .before .release .ensures) (c .before .larger .ensures) (c .pick .ensures)
+    let entry = c .before .before in
+    follows-none (entry .args .set .now) (entry .args .state .now) (entry .pre .first .before .loaded) _ _ (entry .pre .first) (rw (c .before .jobs .ensures) at (c .if1 .taken))
+
+reached-requires : tie.Need-reached-requires
+reached-requires c κs = search needs
+
+top-requires : tie.Need-top-requires
+top-requires c κs = search needs
+
+cast-result : tie.Need-cast-result
+cast-result c = search needs
+
+sub-result : tie.Need-sub-result
+sub-result c = search needs
+
+returns-2 : tie.Need-returns-2
+returns-2 c =
+    let test = c .before .before in
+    let entry = test .before .before in
+    follows (entry .args .set .now) (entry .args .state .now) (entry .pre .first .before .loaded) _ _ _ _ (entry .pre .first)
+    (rw (test .before .jobs .ensures) at (test .if1 .left)) (c .before .reached .ensures) (c .top .ensures)
 
 pub after-spec : {M : Type 1} → statement M
 after-spec =
     tie.close
-    (tie.spec first-unfinished-requires release-requires larger-requires pick-requires returns)
+    (tie.spec jobs-requires returns reached-requires top-requires cast-result sub-result returns-2)

@@ -5,21 +5,23 @@ use lib.ListN.{getD}
 use borrow.Author.Needs.{needs}
 use Rattle.kernel.specs.Laws.Tests.{below}
 use Rattle.kernel.specs.Words.{setOf}
-use Rattle.walk.specs.Laws.Keyed.{opens}
+use Rattle.walk.specs.Choice.{NoKeys}
 use Rattle.walk.proofs.choice.first_unfinished.Statement.{statement}
 use Rattle.walk.proofs.choice.first_unfinished.Tie as tie
 
 abbrev Inv-loop : tie.InvT-loop
-Inv-loop set state n i₀ i = (i ≤ n) × (n ≡ setOf set .jobs) × ((j : ℕ) → j < i → getD state (4 * j) 0 ≡ 0)
+Inv-loop set state done n i₀ i = (i ≤ n) × (n ≡ setOf set .jobs) × NoKeys state i
 
 abbrev μ-loop : tie.MeasureT-loop
-μ-loop set state n i₀ i = n - i
+μ-loop set state done n i₀ i = n - i
 
 jobs-requires : tie.Need-jobs-requires Inv-loop μ-loop
 jobs-requires c κs = search needs
 
 loop-holds : tie.Need-loop-holds Inv-loop μ-loop
-loop-holds c = search needs
+loop-holds c =
+    let asked = c .before .pre in
+    (omega (arith, asked .inside, c .jobs .ensures), c .jobs .ensures, asked .ended)
 
 mul-word-at : tie.Need-mul-word-at Inv-loop μ-loop
 mul-word-at c = search needs
@@ -32,8 +34,10 @@ returns c =
     let at = c .before .before .before .before in
     let entry = at .before .before in
     let inv = at .loop .inv in
-    opens (entry .args .set .now) (entry .args .state .now) (entry .pre) (at .loop .i) (omega (arith, inv .0, inv .1)) (inv .2)
-    (λ h. rw (c .before .word-at .ensures) at (c .if1 .taken))
+    record {
+      before = record { loaded = entry .pre .loaded; inside = omega (arith, inv .0, inv .1); ended = inv .2 };
+      unfinished = λ h. rw (c .before .word-at .ensures) at (c .if1 .taken);
+    }
 
 add-i : tie.Need-add-i Inv-loop μ-loop
 add-i c = search needs
@@ -57,8 +61,10 @@ returns-2 c =
     let at = c .before in
     let entry = at .before .before in
     let inv = at .loop .inv in
-    opens (entry .args .set .now) (entry .args .state .now) (entry .pre) _ (omega (arith, inv .1)) (λ j (h : j < _). inv .2 j (omega (arith, c .loop-test .left)))
-    (λ h. absurd (omega (arith, inv .1)))
+    record {
+      before = record { loaded = entry .pre .loaded; inside = omega (arith, inv .1); ended = λ j (h : j < _). inv .2 j (omega (arith, c .loop-test .left)) };
+      unfinished = λ h. absurd (omega (arith, inv .1));
+    }
 
 pub first-unfinished-spec : {M : Type 1} → statement M
 first-unfinished-spec =

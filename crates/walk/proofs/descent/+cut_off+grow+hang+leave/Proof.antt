@@ -8,8 +8,8 @@ use Rattle.walk.specs.Laws.Twigs.{job-fits}
 use Rattle.walk.proofs.Hanging.{hung-past, hung-last, hang-fits, hang-grows, hung-job}
 use Rattle.walk.proofs.Growing.{grown-none, late-fits, early-fits, grow-leaves, grown-left, grow-cuts, grown-cut}
 use Rattle.walk.proofs.Turn.{Turn, turn-span, turn-last, turn-less, turn-hang, turn-more}
-use Rattle.walk.proofs.Leaving.{segment-small, leave-starts, left-all}
-use Rattle.walk.proofs.Cutting.{cut-hangs, cut-all}
+use Rattle.walk.proofs.Leaving.{segment-small, leave-ended, leave-starts, left-all}
+use Rattle.walk.proofs.Cutting.{cut-switch, cut-hangs, cut-all}
 use borrow.Fn.Kinds.{In}
 use borrow.Fn.PlainCycle.{Measures, is, falls, and}
 use Rattle.walk.proofs.descent.cut_off.Reads as cut-off
@@ -26,6 +26,8 @@ use Rattle.walk.proofs.descent.leave.Kinds as leave-kinds
 use Rattle.walk.proofs.descent.+cut_off+grow+hang+leave.Lts-leave as leave-lts
 use Rattle.kernel.proofs.jobs.jobs.Reads as jobs-reads
 use Rattle.walk.proofs.choice.above.Reads as above-reads
+use Rattle.walk.proofs.choice.first_unfinished.Reads as first-unfinished-reads
+use Rattle.walk.proofs.choice.released.Reads as released-reads
 use Rattle.walk.proofs.choice.weight.Reads as weight-reads
 use Rattle.walk.proofs.nodes.put.Reads as nodes-put-reads
 use Rattle.walk.proofs.state.begun.Reads as begun-reads
@@ -80,13 +82,13 @@ abbrev cut-off-calls : ℕ → cut-off-lts.Claims
 cut-off-calls t = (of-job-reads.Asked, of-job-reads.Learnt, least-left-reads.Asked, least-left-reads.Learnt, state-cut-reads.Asked, state-cut-reads.Learnt, state-put-reads.Asked, state-put-reads.Learnt, switches-cut-reads.Asked, switches-cut-reads.Learnt, hang-below t, hang.Post)
 
 abbrev grow-calls : ℕ → grow-lts.Claims
-grow-calls t = (of-job-reads.Asked, of-job-reads.Learnt, weight-reads.Asked, weight-reads.Learnt, above-reads.Asked, above-reads.Learnt, leave-below t, leave.Post, cut-off-below t, cut-off.Post)
+grow-calls t = (of-job-reads.Asked, of-job-reads.Learnt, released-reads.Asked, released-reads.Learnt, weight-reads.Asked, weight-reads.Learnt, above-reads.Asked, above-reads.Learnt, leave-below t, leave.Post, cut-off-below t, cut-off.Post)
 
 abbrev hang-calls : ℕ → hang-lts.Claims
 hang-calls t = (jobs-reads.Asked, jobs-reads.Learnt, nodes-put-reads.Asked, nodes-put-reads.Learnt, of-job-reads.Asked, of-job-reads.Learnt, resumed-reads.Asked, resumed-reads.Learnt, state-put-reads.Asked, state-put-reads.Learnt, grow-below t, grow.Post)
 
 abbrev leave-calls : ℕ → leave-lts.Claims
-leave-calls t = (of-job-reads.Asked, of-job-reads.Learnt, leave-kind-reads.Asked, leave-kind-reads.Learnt, begun-reads.Asked, begun-reads.Learnt, state-put-reads.Asked, state-put-reads.Learnt, span-reads.Asked, span-reads.Learnt, hang-below t, hang.Post)
+leave-calls t = (of-job-reads.Asked, of-job-reads.Learnt, leave-kind-reads.Asked, leave-kind-reads.Learnt, begun-reads.Asked, begun-reads.Learnt, state-put-reads.Asked, state-put-reads.Learnt, first-unfinished-reads.Asked, first-unfinished-reads.Learnt, span-reads.Asked, span-reads.Learnt, hang-below t, hang.Post)
 
 cut-off-put-requires-2 : (t : ℕ) → cut-off-lts.Need-put-requires-2 (cut-off-calls t) (cut-off-at t) cut-off.Post
 cut-off-put-requires-2 t c κs =
@@ -106,41 +108,41 @@ cut-off-returns t c =
 grow-leave-requires : (t : ℕ) → grow-lts.Need-leave-requires (grow-calls t) (grow-at t) grow.Post
 grow-leave-requires t c κs =
     let above = c .before .before in
-    let job = above .before .before .before .before .before in
+    let job = above .before .before .before .before .before .before in
     let start = job .before .before .before .before in (
       omega (arith, start .pre .0),
       grow-leaves (start .pre .1) (job .of-job .ensures) (pos-of-ne-zero (job .before .before .if1 .left))
-          refl refl (above .before .weight .ensures) (above .above .ensures),
+          refl refl (above .before .before .before .released .ensures) (above .before .weight .ensures) (above .above .ensures),
     )
 
 grow-returns-2 : (t : ℕ) → grow-lts.Need-returns-2 (grow-calls t) (grow-at t) grow.Post
 grow-returns-2 t c =
     let left = c .before .before .before in
     let above = left .before .before .before in
-    let job = above .before .before .before .before .before in
+    let job = above .before .before .before .before .before .before in
     let start = job .before .before .before .before in
     grown-left (start .pre .1) (job .of-job .ensures) (pos-of-ne-zero (job .before .before .if1 .left))
-    refl refl (above .before .weight .ensures) (above .above .ensures) (left .leave .ensures) (c .if2 .taken)
+    refl refl (above .before .before .before .released .ensures) (above .before .weight .ensures) (above .above .ensures) (left .leave .ensures) (c .if2 .taken)
 
 grow-cut-off-requires : (t : ℕ) → grow-lts.Need-cut-off-requires (grow-calls t) (grow-at t) grow.Post
 grow-cut-off-requires t c κs =
     let left = c .before .before .before .before .before in
     let above = left .before .before .before in
-    let job = above .before .before .before .before .before in
+    let job = above .before .before .before .before .before .before in
     let start = job .before .before .before .before in (
       omega (arith, start .pre .0),
       grow-cuts (start .pre .1) (job .of-job .ensures) (pos-of-ne-zero (job .before .before .if1 .left))
-          refl refl (above .before .weight .ensures) (above .above .ensures) (left .leave .ensures) (c .before .before .if2 .left),
+          refl refl (above .before .before .before .released .ensures) (above .before .weight .ensures) (above .above .ensures) (left .leave .ensures) (c .before .before .if2 .left),
     )
 
 grow-returns-3 : (t : ℕ) → grow-lts.Need-returns-3 (grow-calls t) (grow-at t) grow.Post
 grow-returns-3 t c =
     let left = c .before .before .before .before .before .before .before .before in
     let above = left .before .before .before in
-    let job = above .before .before .before .before .before in
+    let job = above .before .before .before .before .before .before in
     let start = job .before .before .before .before in
     grown-cut (start .pre .1) (job .of-job .ensures) (pos-of-ne-zero (job .before .before .if1 .left))
-    refl refl (above .before .weight .ensures) (above .above .ensures) (left .leave .ensures) (c .before .before .cut-off .ensures)
+    refl refl (above .before .before .before .released .ensures) (above .before .weight .ensures) (above .above .ensures) (left .leave .ensures) (c .before .before .cut-off .ensures)
 
 hang-grow-requires : (t : ℕ) → hang-lts.Need-grow-requires (hang-calls t) (hang-at t) hang.Post
 hang-grow-requires t c κs =
@@ -170,16 +172,31 @@ hang-returns-3 t c =
     (node .put2 .ensures) (c .before .before .before .before .grow .ensures) (c .put4 .ensures)
 
 abbrev leave-Inv-loop : leave-lts.InvT-loop
-leave-Inv-loop set state₀ words₀ j early latest parent depth cap was k kind count₀ t₀ state words count t =
-    Turn set state₀ kind early latest parent depth cap words₀ count₀ state words count t
+leave-Inv-loop set state₀ words₀ j early latest parent depth cap first out was k kind next count₀ t₀ state words count t =
+    Turn set state₀ kind early latest parent depth cap next out words₀ count₀ state words count t
 
 abbrev leave-μ-loop : leave-lts.MeasureT-loop
-leave-μ-loop set state₀ words₀ j early latest parent depth cap was k kind count₀ t₀ state words count t = latest + 1 - t
+leave-μ-loop set state₀ words₀ j early latest parent depth cap first out was k kind next count₀ t₀ state words count t = latest + 1 - t
+
+leave-first-unfinished-requires : (t : ℕ)
+    → leave-lts.Need-first-unfinished-requires (leave-calls t) (leave-at t) leave.Post leave-Inv-loop leave-μ-loop
+leave-first-unfinished-requires t c κs =
+    let put = c .before in
+    let job = put .before .before .before .before .before in
+    leave-ended (job .before .before .before .pre .1) (job .of-job .ensures) _ (put .put .ensures)
+
+leave-loop-holds : (t : ℕ) → leave-lts.Need-loop-holds (leave-calls t) (leave-at t) leave.Post leave-Inv-loop leave-μ-loop
+leave-loop-holds t c =
+    let put = c .before .before in
+    let kind = put .before .before .before in
+    let job = kind .before .before in
+    leave-starts (job .before .before .before .pre .1) (job .of-job .ensures) refl (kind .leave-kind .ensures) (put .before .begun .ensures) (put .put .ensures)
+    (c .first-unfinished .ensures)
 
 leave-hang-requires : (t : ℕ) → leave-lts.Need-hang-requires (leave-calls t) (leave-at t) leave.Post leave-Inv-loop leave-μ-loop
 leave-hang-requires t c κs =
     let loop = c .before .before .before .before .before in
-    let start = loop .before .before .before .before .before .before .before .before .before in (
+    let start = loop .before .before .before .before .before .before .before .before .before .before .before in (
       omega (arith, start .pre .0, start .pre .1 .some),
       turn-hang (loop .loop .inv) (c .before .before .before .before .loop-test .taken) (c .before .before .span .ensures),
     )
@@ -190,6 +207,16 @@ leave-add-t t c =
     let loop = span .before .before .before in
     omega (arith, turn-last (loop .loop .inv) (span .before .before .loop-test .taken) (span .span .ensures), loop .loop .inv .leaves .high .near)
 
+leave-returns : (t : ℕ) → leave-lts.Need-returns (leave-calls t) (leave-at t) leave.Post leave-Inv-loop leave-μ-loop
+leave-returns t c =
+    let test = c .before .before in
+    let next = test .before .before in
+    let put = next .before .before in
+    let kind = put .before .before .before in
+    let job = kind .before .before in
+    left-all (job .before .before .before .pre .1) (job .of-job .ensures) refl (kind .leave-kind .ensures) (put .before .begun .ensures) (put .put .ensures)
+    (next .first-unfinished .ensures) (test .before .loop .inv) (test .loop-test .left) (c .put2 .ensures)
+
 pub +cut-off+grow+hang+leave-spec : {M : Type 1} → statement M
 +cut-off+grow+hang+leave-spec = close μ-cut-off μ-grow μ-hang μ-leave
     (λ t. cut-off-lts.spec (cut-off-calls t) (cut-off-at t) cut-off.Post
@@ -198,7 +225,7 @@ pub +cut-off+grow+hang+leave-spec : {M : Type 1} → statement M
     (λ c. search needs)
     (λ c κs. search needs)
     (λ c κs. search job-fits)
-    (λ c κs. search needs)
+    (λ c κs. search cut-switch)
     (λ c. search needs)
     (λ c κs. search (cut-hangs, needs))
     (cut-off-put-requires-2 t)
@@ -209,6 +236,7 @@ pub +cut-off+grow+hang+leave-spec : {M : Type 1} → statement M
     (λ c κs. search job-fits)
     (λ c. omega (arith, early-fits (c .before .before .before .before .before .pre .1) (c .before .of-job .ensures)))
     (λ c. omega (arith, late-fits (c .before .before .before .before .before .before .pre .1) (c .before .before .of-job .ensures)))
+    (λ c κs. search needs)
     (λ c κs. search needs)
     (λ c κs. search needs)
     (grow-leave-requires t)
@@ -243,13 +271,14 @@ pub +cut-off+grow+hang+leave-spec : {M : Type 1} → statement M
     (λ c κs. search needs)
     (λ c κs. search needs)
     (λ c κs. search job-fits)
-    (λ c. search leave-starts)
-    (λ c κs. search turn-span)
-    (λ c. c .before .before .before .before .before .before .before .before .before .before .before .before .before .before .pre .1 .some)
+    (leave-first-unfinished-requires t)
+    (leave-loop-holds t)
+    (λ c κs. turn-span (c .before .before .loop .inv) (c .before .loop-test .taken))
+    (λ c. c .before .before .before .before .before .before .before .before .before .before .before .before .before .before .before .before .pre .1 .some)
     (leave-hang-requires t)
     (leave-add-t t)
     (λ c. search turn-less)
     (λ c. search turn-more)
-    (λ c κs. search job-fits)
+    (λ c κs. let asked = c .before .before .before .before .before .before .before .before .before .before .before .before .before .pre .1 in job-fits (asked .loaded) (asked .rep))
     (λ c. search needs)
-    (λ c. search left-all))
+    (leave-returns t))

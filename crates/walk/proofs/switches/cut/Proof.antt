@@ -3,6 +3,9 @@ use Rattle.walk.specs.Laws.Spanned.{cuts}
 use Rattle.walk.proofs.switches.cut.Statement.{statement}
 use Rattle.walk.proofs.switches.cut.Tie as tie
 
+released-requires : tie.Need-released-requires
+released-requires c κs = search needs
+
 after-requires : tie.Need-after-requires
 after-requires c κs = search needs
 
@@ -11,8 +14,10 @@ to-job-requires c κs = search needs
 
 returns : tie.Need-returns
 returns c =
-    let entry = c .before .before in
-    cuts (entry .args .set .now) (entry .args .state .now) _ _ _ (c .before .after .ensures) (c .to-job .ensures)
+    let after = c .before in
+    let released = after .before in
+    let entry = released .before in
+    cuts (entry .args .set .now) (entry .args .state .now) _ _ _ _ (released .released .ensures) (after .after .ensures) (c .to-job .ensures)
 
 pub cut-spec : {M : Type 1} → statement M
-cut-spec = tie.close (tie.spec after-requires to-job-requires returns)
+cut-spec = tie.close (tie.spec released-requires after-requires to-job-requires returns)

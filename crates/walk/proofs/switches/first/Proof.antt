@@ -3,6 +3,9 @@ use Rattle.walk.specs.Laws.Spanned.{begins}
 use Rattle.walk.proofs.switches.first.Statement.{statement}
 use Rattle.walk.proofs.switches.first.Tie as tie
 
+released-requires : tie.Need-released-requires
+released-requires c κs = search needs
+
 after-requires : tie.Need-after-requires
 after-requires c κs = search needs
 
@@ -14,8 +17,11 @@ to-job-requires c κs = search needs
 
 returns : tie.Need-returns
 returns c =
-    let entry = c .before .before .before in
-    begins (entry .args .set .now) (entry .args .state .now) _ _ _ (c .before .before .after .ensures) (c .before .release .ensures) (c .to-job .ensures)
+    let after = c .before .before in
+    let released = after .before in
+    let entry = released .before in
+    begins (entry .args .set .now) (entry .args .state .now) _ _ _ _ (released .released .ensures) (after .after .ensures) (c .before .release .ensures) (c .to-job .ensures)
 
 pub first-spec : {M : Type 1} → statement M
-first-spec = tie.close (tie.spec after-requires release-requires to-job-requires returns)
+first-spec =
+    tie.close (tie.spec released-requires after-requires release-requires to-job-requires returns)
