@@ -23,12 +23,12 @@ pub fn same(row: &[u32], words: &[u32], n: usize) -> bool
     if row.len() != n {
         return false;
     }
-    let mut i: usize = 0;
-    while i < n {
-        if row[i] != words[i] {
+    let mut at: usize = 0;
+    while at < n {
+        if row[at] != words[at] {
             return false;
         }
-        i += 1;
+        at += 1;
     }
     true
 }

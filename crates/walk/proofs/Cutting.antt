@@ -19,7 +19,7 @@ use Rattle.walk.specs.Laws.Keyed.{out-later}
 use Rattle.walk.specs.Laws.Unfinished.{some-key, running-key, put-first}
 use Rattle.walk.specs.declared.state.Standing.{Standing}
 use Rattle.walk.specs.declared.switches.Switch.{Switch}
-use Rattle.walk.specs.declared.descent.Count.{Count}
+use Rattle.walk.specs.Count.{Count}
 
 module _ {w s : List ℕ} {j e y l : ℕ} {c : Count} {depth cap first out : ℕ} (A : CutAsk w s j e y l c depth cap first out)
     {was cut : Standing} {least : ℕ} {s₁ : List ℕ}

@@ -20,7 +20,7 @@ use Rattle.walk.specs.Laws.Writing.{still-room, wrote-none, wrote-append
 use Rattle.walk.specs.Laws.Ticks.{late-small}
 use Rattle.walk.specs.Laws.Twigs.{job-inside}
 use Rattle.walk.specs.declared.state.Standing.{Standing}
-use Rattle.walk.specs.declared.descent.Count.{Count}
+use Rattle.walk.specs.Count.{Count}
 
 module _ {w s : List ℕ} {j from to : ℕ} {c : Count} {depth cap first out : ℕ} (A : GrowAsk w s j from to c depth cap first out) where
   -- no switch may follow

@@ -22,7 +22,7 @@ use Rattle.walk.specs.Laws.Twigs.{job-fits, present-word, AfterLeaving, 
 use Rattle.walk.specs.Laws.Unfinished.{running-key, put-ended}
 use Rattle.walk.proofs.Turn.{leavings, Turn, turn-start, turn-end}
 use Rattle.walk.specs.declared.state.Standing.{Standing}
-use Rattle.walk.specs.declared.descent.Count.{Count}
+use Rattle.walk.specs.Count.{Count}
 
 module _ {w s : List ℕ} {j e l : ℕ} {c : Count} {depth cap first out : ℕ} (A : LeaveAsk w s j e l c depth cap first out) {was : Standing} (ew : was ≡ standingAt s j) where
   segment-is : {S : State} {B : Box} → Rep w s j S B → was .segment ≡ present S

@@ -20,7 +20,7 @@ use Rattle.walk.specs.Laws.Writing.{still-room, wrote-none, wrote-append
 use Rattle.walk.specs.Laws.Ticks.{high-switch}
 use Rattle.walk.specs.Laws.Twigs.{AfterLeaving, span-twig, span-last}
 use Rattle.walk.specs.declared.switches.Switch.{Switch}
-use Rattle.walk.specs.declared.descent.Count.{Count}
+use Rattle.walk.specs.Count.{Count}
 
 -- the switches of the ticks of leaving from t to top, with all that may follow
 abbrev pub leavings : JobSet → (depth : ℕ) → Kind → Control → (least most : ℕ → ℕ → ℕ) → (top t : ℕ) → Forest

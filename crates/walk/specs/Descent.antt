@@ -18,7 +18,7 @@ use Rattle.orders.specs.Laws.Words.{words}
 use Rattle.walk.specs.State.{Stands}
 use Rattle.walk.specs.Switches.{switchOf, SwitchAsk}
 use Rattle.walk.specs.declared.switches.Switch.{Switch}
-use Rattle.walk.specs.declared.descent.Count.{Count}
+use Rattle.walk.specs.Count.{Count}
 
 -- ---- what is written and counted
 

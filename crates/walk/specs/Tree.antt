@@ -13,7 +13,7 @@ use Rattle.orders.specs.Laws.Walk.{theTree}
 use Rattle.walk.specs.Descent.{Wrote}
 use Rattle.walk.specs.declared.Found.{Found}
 use Rattle.walk.specs.declared.Found.the-variants.{Whole, TooLarge}
-use Rattle.walk.specs.declared.descent.Count.{Count}
+use Rattle.walk.specs.Count.{Count}
 
 -- how many nodes so many words hold, at most 1,000,000
 abbrev pub roomOf : ℕ → ℕ

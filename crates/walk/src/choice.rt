@@ -72,15 +72,15 @@ fn reached(set: &[u32; 322], first: usize, out: usize) -> usize
 }
 
 // The job that is dispatched next after a leaving by which `out` jobs are released; the number of jobs where all are finished.
-pub fn after(set: &[u32; 322], state: &[u32; 128], first: usize, out: usize) -> usize
+pub fn after(set: &[u32; 322], state: &[u32; 128], first: usize, out: usize) -> u32
     requires { ⌜ NextAsk (now set) (now state) first out ⌝ }
     ensures { λ r. ⌜ Follows (now (set .entry)) (now (state .entry)) out r ⌝ }
 {
     if jobs::jobs(set) <= first {
-        return first;
+        return first as u32;
     }
     let best = top(state, first, reached(set, first, out));
-    31 - (best % 32) as usize
+    31 - best % 32
 }
 
 // The weight of job i: what its key holds above its number.

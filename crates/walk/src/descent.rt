@@ -1,17 +1,13 @@
 // Recursive descent from each switch to whatever may follow it. The falling number is `depth`: how many switches may still follow.
+ghost use Rattle.walk.specs.Count.{countOf};
 ghost use Rattle.walk.specs.Descent.{HangAsk, Hung, GrowAsk, Grown, LeaveAsk, Left, CutAsk, CutOff};
 use crate::choice;
 use crate::nodes;
 use crate::state;
 use crate::switches;
 use crate::switches::Switch;
+use crate::tally;
 use kernel::jobs;
-
-// Nodes, and those of them that end a run.
-pub struct Count {
-    pub nodes: u32,
-    pub orders: u32,
-}
 
 // The switch x as the next node, with all that may follow it. Nodes from number `cap` on are left out. Job `first` is the first unfinished one, and the first `out`
 // jobs are released before the dispatch.
@@ -20,35 +16,29 @@ pub fn hang(
     state: &mut [u32; 128],
     words: &mut [u32],
     x: Switch,
-    seen: Count,
+    seen: u64,
     parent: u32,
     depth: usize,
     cap: u32,
     first: usize,
     out: usize,
-) -> Count
-    requires { ⌜ HangAsk (now set) (now state) x seen depth cap first out ⌝ }
-    ensures { λ r. ⌜ Hung (now (set .entry)) (now (state .entry)) (now (state .exit)) x parent depth cap (now (words .entry)) seen (now (words .exit)) r ⌝ }
+) -> u64
+    requires { ⌜ HangAsk (now set) (now state) x (countOf seen) depth cap first out ⌝ }
+    ensures { λ r. ⌜ Hung (now (set .entry)) (now (state .entry)) (now (state .exit)) x parent depth cap (now (words .entry)) (countOf seen) (now (words .exit)) (countOf r) ⌝ }
 {
-    let at = seen.nodes;
+    let at = tally::nodes(seen);
     if cap <= at {
         return seen;
     }
-    let d = x.job;
+    let d = x.job as usize;
     if jobs::jobs(set) <= d {
         nodes::put(words, at, parent, x, 4294967295, 4294967295);
-        return Count {
-            nodes: at + 1,
-            orders: seen.orders + 1,
-        };
+        return tally::with_order(seen);
     }
     let was = state::of_job(state, d);
-    nodes::put(words, at, parent, x, d as u32, was.segment);
+    nodes::put(words, at, parent, x, x.job, was.segment);
     state::put(state, d, state::resumed(set, d, was));
-    let more = Count {
-        nodes: at + 1,
-        orders: seen.orders,
-    };
+    let more = tally::with_node(seen);
     let all = grow(
         set,
         state,
@@ -75,15 +65,15 @@ fn grow(
     j: usize,
     from: u32,
     to: u32,
-    seen: Count,
+    seen: u64,
     parent: u32,
     depth: usize,
     cap: u32,
     first: usize,
     out: usize,
-) -> Count
-    requires { ⌜ GrowAsk (now set) (now state) j from to seen depth cap first out ⌝ }
-    ensures { λ r. ⌜ Grown (now (set .entry)) (now (state .entry)) (now (state .exit)) j from to parent depth cap (now (words .entry)) seen (now (words .exit)) r ⌝ }
+) -> u64
+    requires { ⌜ GrowAsk (now set) (now state) j from to (countOf seen) depth cap first out ⌝ }
+    ensures { λ r. ⌜ Grown (now (set .entry)) (now (state .entry)) (now (state .exit)) j from to parent depth cap (now (words .entry)) (countOf seen) (now (words .exit)) (countOf r) ⌝ }
 {
     if depth == 0 {
         return seen;
@@ -135,15 +125,15 @@ fn leave(
     j: usize,
     early: u32,
     latest: u32,
-    seen: Count,
+    seen: u64,
     parent: u32,
     depth: usize,
     cap: u32,
     first: usize,
     out: usize,
-) -> Count
-    requires { ⌜ LeaveAsk (now set) (now state) j early latest seen depth cap first out ⌝ }
-    ensures { λ r. ⌜ Left (now (set .entry)) (now (state .entry)) (now (state .exit)) j early latest parent depth cap (now (words .entry)) seen (now (words .exit)) r ⌝ }
+) -> u64
+    requires { ⌜ LeaveAsk (now set) (now state) j early latest (countOf seen) depth cap first out ⌝ }
+    ensures { λ r. ⌜ Left (now (set .entry)) (now (state .entry)) (now (state .exit)) j early latest parent depth cap (now (words .entry)) (countOf seen) (now (words .exit)) (countOf r) ⌝ }
 {
     let was = state::of_job(state, j);
     let k = was.segment + 1;
@@ -181,15 +171,15 @@ fn cut_off(
     early: u32,
     late: u32,
     latest: u32,
-    seen: Count,
+    seen: u64,
     parent: u32,
     depth: usize,
     cap: u32,
     first: usize,
     out: usize,
-) -> Count
-    requires { ⌜ CutAsk (now set) (now state) j early late latest seen depth cap first out ⌝ }
-    ensures { λ r. ⌜ CutOff (now (set .entry)) (now (state .entry)) (now (state .exit)) j early late latest parent depth cap (now (words .entry)) seen (now (words .exit)) r ⌝ }
+) -> u64
+    requires { ⌜ CutAsk (now set) (now state) j early late latest (countOf seen) depth cap first out ⌝ }
+    ensures { λ r. ⌜ CutOff (now (set .entry)) (now (state .entry)) (now (state .exit)) j early late latest parent depth cap (now (words .entry)) (countOf seen) (now (words .exit)) (countOf r) ⌝ }
 {
     let was = state::of_job(state, j);
     let cut = state::cut(was, switches::least_left(early, latest), late - latest);

@@ -2,6 +2,7 @@
 ghost use mathlib.Core.Path.{_≡_};
 ghost use Rattle.kernel.specs.Words.{setOf, Loaded};
 ghost use Rattle.orders.specs.Laws.Walk.{enough};
+ghost use Rattle.walk.specs.Count.{countOf};
 ghost use Rattle.walk.specs.Tree.{roomOf, PassAsk, Passed, Walked};
 
 mod choice;
@@ -9,8 +10,8 @@ mod descent;
 mod nodes;
 mod state;
 mod switches;
+mod tally;
 
-use descent::Count;
 use kernel::jobs;
 
 // How many nodes and orders the tree has that was written; or it has more nodes than there is room for.
@@ -43,23 +44,19 @@ fn enough(set: &[u32; 322]) -> usize
 }
 
 // One walk over all orders that writes as many words as are lent, and counts nodes up to `cap`.
-fn pass(set: &[u32; 322], words: &mut [u32], cap: u32) -> Count
+fn pass(set: &[u32; 322], words: &mut [u32], cap: u32) -> u64
     requires { ⌜ PassAsk (now set) cap ⌝ }
-    ensures { λ r. ⌜ Passed (now (set .entry)) cap (now (words .entry)) (now (words .exit)) r ⌝ }
+    ensures { λ r. ⌜ Passed (now (set .entry)) cap (now (words .entry)) (now (words .exit)) (countOf r) ⌝ }
 {
     let mut state = state::fresh(set);
     let next = choice::first_unfinished(set, &state, 0);
     let first = switches::first(set, &state, next);
-    let none = Count {
-        nodes: 0,
-        orders: 0,
-    };
     descent::hang(
         set,
         &mut state,
         words,
         first,
-        none,
+        0,
         4294967295,
         enough(set),
         cap,
@@ -76,9 +73,9 @@ pub fn tree(set: &[u32; 322], words: &mut [u32]) -> Found
     let room = room_of(words.len());
     let mut scrap = [0u32; 1];
     let seen = pass(set, &mut scrap, room + 1);
-    if room < seen.nodes {
+    if room < tally::nodes(seen) {
         return Found::TooLarge;
     }
     let all = pass(set, words, room + 1);
-    Found::Whole(all.nodes, all.orders)
+    Found::Whole(tally::nodes(all), tally::orders(all))
 }

@@ -13,7 +13,7 @@ pub struct Switch {
     pub kind: u32,
     pub first: u32,
     pub last: u32,
-    pub job: usize,
+    pub job: u32,
     pub from: u32,
     pub to: u32,
 }
@@ -35,17 +35,17 @@ pub fn leave_kind(set: &[u32; 322], i: usize, k: u32) -> u32
 pub fn least_left(early: u32, t: u32) -> u32
     ensures { λ r. ⌜ r ≡ max 1 (early - t) ⌝ }
 {
-    if t < early {
-        return early - t;
+    if early <= t {
+        return 1;
     }
-    1
+    early - t
 }
 
 // The switch to job d of the ticks of leaving from first to last.
-fn to_job(set: &[u32; 322], kind: u32, first: u32, last: u32, d: usize) -> Switch
+fn to_job(set: &[u32; 322], kind: u32, first: u32, last: u32, d: u32) -> Switch
     ensures { λ r. ⌜ r ≡ switchFor (setOf (now (set .entry))) kind first last d ⌝ }
 {
-    let release = jobs::release(set, d);
+    let release = jobs::release(set, d as usize);
     Switch {
         kind,
         first,
@@ -71,7 +71,7 @@ pub fn span(
 {
     let released = choice::released(set, out, t);
     let d = choice::after(set, state, first, released);
-    let weight = choice::weight(set, state, d);
+    let weight = choice::weight(set, state, d as usize);
     let end = choice::above(set, state, released, weight, latest + 1);
     to_job(set, kind, t, end - 1, d)
 }
@@ -92,6 +92,6 @@ pub fn first(set: &[u32; 322], state: &[u32; 128], first: usize) -> Switch
 {
     let released = choice::released(set, 0, 0);
     let d = choice::after(set, state, first, released);
-    let tick = jobs::release(set, d);
+    let tick = jobs::release(set, d as usize);
     to_job(set, 0, tick, tick, d)
 }

@@ -1,4 +1,5 @@
 use borrow.Author.Needs.{needs}
+use Rattle.walk.specs.Laws.Counting.{count-none}
 use Rattle.walk.specs.Laws.Root.{root-ask, root-passed}
 use Rattle.walk.proofs.pass.Statement.{statement}
 use Rattle.walk.proofs.pass.Tie as tie
@@ -21,8 +22,8 @@ hang-requires c κs =
     let next = first .before .before in
     let fresh = next .before .before in
     let entry = fresh .before .before in
-    root-ask (entry .args .set .now) (fresh .fresh .result) (entry .pre .loaded) (fresh .fresh .ensures) (first .first .result) (first .first .ensures)
-    _ _ _ (c .enough .ensures) (entry .pre .most) (next .first-unfinished .ensures)
+    rw count-none (root-ask (entry .args .set .now) (fresh .fresh .result) (entry .pre .loaded) (fresh .fresh .ensures) (first .first .result) (first .first .ensures)
+    _ _ _ (c .enough .ensures) (entry .pre .most) (next .first-unfinished .ensures))
 
 same-length : tie.Need-same-length
 same-length c = search needs
@@ -34,7 +35,7 @@ returns c =
     let fresh = first .before .before .before .before in
     let entry = fresh .before .before in
     root-passed (entry .args .set .now) (fresh .fresh .result) (entry .pre .loaded) (fresh .fresh .ensures) (first .first .result) (first .first .ensures)
-    _ _ _ _ _ _ (hung .before .enough .ensures) (hung .hang .ensures)
+    _ _ _ _ _ _ (hung .before .enough .ensures) (rw count-none at (hung .hang .ensures))
 
 pub pass-spec : {M : Type 1} → statement M
 pass-spec =

@@ -22,7 +22,7 @@ use Rattle.walk.specs.Laws.Moves.{JobStands, all-stand, longest-small}
 use Rattle.walk.specs.Laws.Ticks.{release-small}
 use Rattle.walk.specs.Laws.Twigs.{after-inside}
 use Rattle.walk.specs.declared.switches.Switch.{Switch}
-use Rattle.walk.specs.declared.descent.Count.{Count}
+use Rattle.walk.specs.Count.{Count}
 
 -- ---- the first dispatch, as the child of a span
 

@@ -14,7 +14,7 @@ use Rattle.orders.specs.Laws.Words.{tree-words}
 use Rattle.walk.specs.Tree.{roomOf, Passed, Walked}
 use Rattle.walk.specs.Laws.Ends.{ends-orders}
 use Rattle.walk.specs.declared.Found.the-variants.{Whole, TooLarge}
-use Rattle.walk.specs.declared.descent.Count.{Count}
+use Rattle.walk.specs.Count.{Count}
 
 module _ (w : List ℕ) (L : Loaded w) (words : List ℕ) (room : ℕ) (is : room ≡ roomOf (length words))
     (scrap scrap′ : List ℕ) (seen : Count) (P : Passed w (room + 1) scrap scrap′ seen) where

@@ -16,7 +16,7 @@ use Rattle.orders.specs.Laws.Words.{words, words-length}
 use Rattle.kernel.proofs.Noted.{sets-append}
 use Rattle.walk.specs.Descent.{ends, Room, Wrote}
 use Rattle.walk.specs.Laws.Forests.{size-append, ends-append, words-append}
-use Rattle.walk.specs.declared.descent.Count.{Count}
+use Rattle.walk.specs.Count.{Count}
 
 -- a count that stays within its limit
 pub still-room : {J : JobSet} {F : Forest} {parent cap : ℕ} {b b′ : List ℕ} {c c′ : Count} → Room c cap → Wrote J F parent cap b c b′ c′ → Room c′ cap

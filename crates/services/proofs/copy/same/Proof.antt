@@ -7,10 +7,10 @@ use Rattle.services.proofs.copy.same.Statement.{statement}
 use Rattle.services.proofs.copy.same.Tie as tie
 
 abbrev Inv-loop : tie.InvT-loop
-Inv-loop row words n i₀ i = Alike row words n i
+Inv-loop row words n at₀ at = Alike row words n at
 
 abbrev μ-loop : tie.MeasureT-loop
-μ-loop row words n i₀ i = n - i
+μ-loop row words n at₀ at = n - at
 
 returns : tie.Need-returns Inv-loop μ-loop
 returns c =
@@ -36,10 +36,10 @@ returns-2 : tie.Need-returns-2 Inv-loop μ-loop
 returns-2 c =
     let loop = c .before .before .before .before in
     let start = loop .before .before in
-    tells-no _ (unlike (start .args .row .now) (start .args .words .now) (start .args .n) (loop .loop .i) (omega (arith, c .before .before .before .loop-test .taken)) (c .if2 .taken))
+    tells-no _ (unlike (start .args .row .now) (start .args .words .now) (start .args .n) (loop .loop .at) (omega (arith, c .before .before .before .loop-test .taken)) (c .if2 .taken))
 
-add-i : tie.Need-add-i Inv-loop μ-loop
-add-i c = search needs
+add-at : tie.Need-add-at Inv-loop μ-loop
+add-at c = search needs
 
 loop-less : tie.Need-loop-less Inv-loop μ-loop
 loop-less c = search needs
@@ -66,7 +66,7 @@ same-spec =
     mul-if2-2
     shared-slice-read-if2-2
     returns-2
-    add-i
+    add-at
     loop-less
     loop-again
     returns-3)

@@ -1,3 +1,4 @@
+use native.Mathlib.Omega.{arith}
 use borrow.Author.Needs.{needs}
 use Rattle.walk.specs.Laws.Keyed.{follows, follows-none}
 use Rattle.walk.proofs.choice.after.Statement.{statement}
@@ -5,6 +6,11 @@ use Rattle.walk.proofs.choice.after.Tie as tie
 
 jobs-requires : tie.Need-jobs-requires
 jobs-requires c κs = search needs
+
+cast-result : tie.Need-cast-result
+cast-result c =
+    let first = c .before .before .pre .first .before in
+    omega (arith, first .inside, first .loaded .few-jobs)
 
 returns : tie.Need-returns
 returns c =
@@ -16,9 +22,6 @@ reached-requires c κs = search needs
 
 top-requires : tie.Need-top-requires
 top-requires c κs = search needs
-
-cast-result : tie.Need-cast-result
-cast-result c = search needs
 
 sub-result : tie.Need-sub-result
 sub-result c = search needs
@@ -33,4 +36,4 @@ returns-2 c =
 pub after-spec : {M : Type 1} → statement M
 after-spec =
     tie.close
-    (tie.spec jobs-requires returns reached-requires top-requires cast-result sub-result returns-2)
+    (tie.spec jobs-requires cast-result returns reached-requires top-requires sub-result returns-2)

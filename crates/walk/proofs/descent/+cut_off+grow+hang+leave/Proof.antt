@@ -4,8 +4,9 @@ use native.Mathlib.Omega.{arith}
 use native.Mathlib.Nat.{pos-of-ne-zero}
 use mathlib.Core.Path.{refl}
 use borrow.Author.Needs.{needs}
+use Rattle.walk.specs.Count.{countOf}
 use Rattle.walk.specs.Laws.Twigs.{job-fits}
-use Rattle.walk.proofs.Hanging.{hung-past, hung-last, hang-fits, hang-grows, hung-job}
+use Rattle.walk.proofs.Hanging.{hung-past, hang-few, hung-last, hang-fits, hang-grows, hung-job}
 use Rattle.walk.proofs.Growing.{grown-none, late-fits, early-fits, grow-leaves, grown-left, grow-cuts, grown-cut}
 use Rattle.walk.proofs.Turn.{Turn, turn-span, turn-last, turn-less, turn-hang, turn-more}
 use Rattle.walk.proofs.Leaving.{segment-small, leave-ended, leave-starts, left-all}
@@ -39,6 +40,9 @@ use Rattle.walk.proofs.switches.cut.Reads as switches-cut-reads
 use Rattle.walk.proofs.switches.least_left.Reads as least-left-reads
 use Rattle.walk.proofs.switches.leave_kind.Reads as leave-kind-reads
 use Rattle.walk.proofs.switches.span.Reads as span-reads
+use Rattle.walk.proofs.tally.nodes.Reads as nodes-reads
+use Rattle.walk.proofs.tally.with_node.Reads as with-node-reads
+use Rattle.walk.proofs.tally.with_order.Reads as with-order-reads
 use Rattle.walk.proofs.descent.+cut_off+grow+hang+leave.{statement}
 use Rattle.walk.proofs.descent.+cut_off+grow+hang+leave.Tie.{close}
 
@@ -85,7 +89,7 @@ abbrev grow-calls : ℕ → grow-lts.Claims
 grow-calls t = (of-job-reads.Asked, of-job-reads.Learnt, released-reads.Asked, released-reads.Learnt, weight-reads.Asked, weight-reads.Learnt, above-reads.Asked, above-reads.Learnt, leave-below t, leave.Post, cut-off-below t, cut-off.Post)
 
 abbrev hang-calls : ℕ → hang-lts.Claims
-hang-calls t = (jobs-reads.Asked, jobs-reads.Learnt, nodes-put-reads.Asked, nodes-put-reads.Learnt, of-job-reads.Asked, of-job-reads.Learnt, resumed-reads.Asked, resumed-reads.Learnt, state-put-reads.Asked, state-put-reads.Learnt, grow-below t, grow.Post)
+hang-calls t = (nodes-reads.Asked, nodes-reads.Learnt, jobs-reads.Asked, jobs-reads.Learnt, nodes-put-reads.Asked, nodes-put-reads.Learnt, with-order-reads.Asked, with-order-reads.Learnt, of-job-reads.Asked, of-job-reads.Learnt, resumed-reads.Asked, resumed-reads.Learnt, state-put-reads.Asked, state-put-reads.Learnt, with-node-reads.Asked, with-node-reads.Learnt, grow-below t, grow.Post)
 
 abbrev leave-calls : ℕ → leave-lts.Claims
 leave-calls t = (of-job-reads.Asked, of-job-reads.Learnt, leave-kind-reads.Asked, leave-kind-reads.Learnt, begun-reads.Asked, begun-reads.Learnt, state-put-reads.Asked, state-put-reads.Learnt, first-unfinished-reads.Asked, first-unfinished-reads.Learnt, span-reads.Asked, span-reads.Learnt, hang-below t, hang.Post)
@@ -144,39 +148,72 @@ grow-returns-3 t c =
     grown-cut (start .pre .1) (job .of-job .ensures) (pos-of-ne-zero (job .before .before .if1 .left))
     refl refl (above .before .before .before .released .ensures) (above .before .weight .ensures) (above .above .ensures) (left .leave .ensures) (c .before .before .cut-off .ensures)
 
+hang-few-last : (t : ℕ) → hang-lts.Need-with-order-requires (hang-calls t) (hang-at t) hang.Post
+hang-few-last t c κs =
+    let counted = c .before .before .before .before .before .before .before in
+    hang-few (counted .before .before .before .pre .1) (counted .before .nodes .ensures) (counted .if1 .left)
+
+hang-returns-2 : (t : ℕ) → hang-lts.Need-returns-2 (hang-calls t) (hang-at t) hang.Post
+hang-returns-2 t c =
+    let none = c .before .before .before .before .before in
+    let counted = none .before .before .before in
+    hung-last (counted .before .before .before .pre .1) (counted .before .nodes .ensures) (counted .if1 .left) (none .before .jobs .ensures) (none .if2 .taken)
+    (c .before .before .before .put .ensures) (c .with-order .ensures)
+
+hang-of-job-requires : (t : ℕ) → hang-lts.Need-of-job-requires (hang-calls t) (hang-at t) hang.Post
+hang-of-job-requires t c κs =
+    let some = c .before in
+    let nodes = some .before .before .before .before in
+    hang-fits (nodes .before .before .pre .1) (nodes .nodes .ensures) (some .before .jobs .ensures) (some .if2 .left)
+
+hang-put-requires-3 : (t : ℕ) → hang-lts.Need-put-requires-3 (hang-calls t) (hang-at t) hang.Post
+hang-put-requires-3 t c κs =
+    let some = c .before .before .before .before .before .before .before .before in
+    let nodes = some .before .before .before .before in
+    hang-fits (nodes .before .before .pre .1) (nodes .nodes .ensures) (some .before .jobs .ensures) (some .if2 .left)
+
+hang-few-more : (t : ℕ) → hang-lts.Need-with-node-requires (hang-calls t) (hang-at t) hang.Post
+hang-few-more t c κs =
+    let counted = c .before .before .before .before .before .before .before .before .before .before .before .before in
+    hang-few (counted .before .before .before .pre .1) (counted .before .nodes .ensures) (counted .if1 .left)
+
 hang-grow-requires : (t : ℕ) → hang-lts.Need-grow-requires (hang-calls t) (hang-at t) hang.Post
 hang-grow-requires t c κs =
-    let put = c .before .before in
+    let more = c .before .before in
+    let put = more .before in
     let job = put .before .before .before .before .before .before .before in
-    let counted = job .before .before .before .before in
-    let start = counted .before .before in (
+    let some = job .before .before in
+    let counted = some .before .before .before in
+    let start = counted .before .before .before in (
       omega (arith, start .pre .0),
-      hang-grows (start .pre .1) (counted .if1 .left) (job .before .before .before .jobs .ensures) (job .before .before .if2 .left)
-          (job .of-job .ensures) (put .before .resumed .ensures) (put .put3 .ensures),
+      hang-grows (start .pre .1) (counted .before .nodes .ensures) (counted .if1 .left) (some .before .jobs .ensures) (some .if2 .left)
+          (job .of-job .ensures) (put .before .resumed .ensures) (put .put3 .ensures) (more .with-node .ensures),
     )
 
 hang-put-requires-4 : (t : ℕ) → hang-lts.Need-put-requires-4 (hang-calls t) (hang-at t) hang.Post
 hang-put-requires-4 t c κs =
-    let some = c .before .before .before .before .before .before .before .before .before .before .before .before .before .before .before in
-    hang-fits (some .before .before .before .before .pre .1) (some .before .jobs .ensures) (some .if2 .left)
+    let some = c .before .before .before .before .before .before .before .before .before .before .before .before .before .before .before .before in
+    let nodes = some .before .before .before .before in
+    hang-fits (nodes .before .before .pre .1) (nodes .nodes .ensures) (some .before .jobs .ensures) (some .if2 .left)
 
 hang-returns-3 : (t : ℕ) → hang-lts.Need-returns-3 (hang-calls t) (hang-at t) hang.Post
 hang-returns-3 t c =
-    let put = c .before .before .before .before .before .before .before in
+    let more = c .before .before .before .before .before .before .before in
+    let put = more .before in
     let node = put .before .before .before .before .before in
     let job = node .before .before in
-    let counted = job .before .before .before .before in
-    let start = counted .before .before in
-    hung-job (start .pre .1) (counted .if1 .left) (job .before .before .before .jobs .ensures) (job .before .before .if2 .left)
-    (job .of-job .ensures) (put .before .resumed .ensures) (put .put3 .ensures)
+    let some = job .before .before in
+    let counted = some .before .before .before in
+    hung-job (counted .before .before .before .pre .1) (counted .before .nodes .ensures) (counted .if1 .left) (some .before .jobs .ensures) (some .if2 .left)
+    (job .of-job .ensures) (put .before .resumed .ensures) (put .put3 .ensures) (more .with-node .ensures)
     (node .put2 .ensures) (c .before .before .before .before .grow .ensures) (c .put4 .ensures)
 
 abbrev leave-Inv-loop : leave-lts.InvT-loop
-leave-Inv-loop set state₀ words₀ j early latest parent depth cap first out was k kind next count₀ t₀ state words count t =
-    Turn set state₀ kind early latest parent depth cap next out words₀ count₀ state words count t
+leave-Inv-loop set state₀ words₀ j early latest seen parent depth cap first out was k kind next count₀ t₀ state words count t =
+    Turn set state₀ kind early latest parent depth cap next out words₀ (countOf count₀) state words (countOf count) t
 
 abbrev leave-μ-loop : leave-lts.MeasureT-loop
-leave-μ-loop set state₀ words₀ j early latest parent depth cap first out was k kind next count₀ t₀ state words count t = latest + 1 - t
+leave-μ-loop set state₀ words₀ j early latest seen parent depth cap first out was k kind next count₀ t₀ state words count t = latest + 1 - t
 
 leave-first-unfinished-requires : (t : ℕ)
     → leave-lts.Need-first-unfinished-requires (leave-calls t) (leave-at t) leave.Post leave-Inv-loop leave-μ-loop
@@ -246,19 +283,19 @@ pub +cut-off+grow+hang+leave-spec : {M : Type 1} → statement M
     (λ c. search needs)
     (grow-returns-3 t))
     (λ t. hang-lts.spec (hang-calls t) (hang-at t) hang.Post
-    (λ c. search hung-past)
     (λ c κs. search needs)
-    (λ c κs. search needs)
-    (λ c. search needs)
-    (λ c. search needs)
-    (λ c. search needs)
-    (λ c. search hung-last)
-    (λ c κs. search hang-fits)
+    (λ c. hung-past (c .before .before .before .pre .1) (c .before .nodes .ensures) (c .if1 .taken))
     (λ c. search needs)
     (λ c κs. search needs)
     (λ c κs. search needs)
-    (λ c κs. search hang-fits)
+    (hang-few-last t)
     (λ c. search needs)
+    (hang-returns-2 t)
+    (hang-of-job-requires t)
+    (λ c κs. search needs)
+    (λ c κs. search needs)
+    (hang-put-requires-3 t)
+    (hang-few-more t)
     (hang-grow-requires t)
     (hang-put-requires-4 t)
     (λ c. search needs)

@@ -9,6 +9,9 @@ released-requires c κs = search needs
 after-requires : tie.Need-after-requires
 after-requires c κs = search needs
 
+cast-release : tie.Need-cast-release
+cast-release c = search needs
+
 release-requires : tie.Need-release-requires
 release-requires c κs = search needs
 
@@ -24,4 +27,4 @@ returns c =
 
 pub first-spec : {M : Type 1} → statement M
 first-spec =
-    tie.close (tie.spec released-requires after-requires release-requires to-job-requires returns)
+    tie.close (tie.spec released-requires after-requires cast-release release-requires to-job-requires returns)

@@ -9,6 +9,9 @@ released-requires c κs = search needs
 after-requires : tie.Need-after-requires
 after-requires c κs = search needs
 
+cast-weight : tie.Need-cast-weight
+cast-weight c = search needs
+
 weight-requires : tie.Need-weight-requires
 weight-requires c κs = search needs
 
@@ -41,6 +44,7 @@ span-spec =
     (tie.spec
     released-requires
     after-requires
+    cast-weight
     weight-requires
     add-above
     above-requires

@@ -1,0 +1,15 @@
+use mathlib.Core.Path.{refl}
+use Rattle.walk.specs.Count.{countOf}
+use borrow.Author.Needs.{needs}
+use Rattle.walk.proofs.tally.orders.Statement.{statement}
+use Rattle.walk.proofs.tally.orders.Tie as tie
+
+cast-result : tie.Need-cast-result
+cast-result c = search needs
+
+returns : tie.Need-returns
+unfolding countOf
+returns c = refl
+
+pub orders-spec : {M : Type 1} → statement M
+orders-spec = tie.close (tie.spec cast-result returns)
