@@ -38,7 +38,7 @@ pub fn first_unfinished(set: &[u32; 322], state: &[u32; 128], done: usize) -> us
     let n = jobs::jobs(set);
     let mut i = done;
     while i < n {
-        if 0 < jobs::word_at(state, 4 * i) {
+        if 0 < state[4 * i] {
             return i;
         }
         i += 1;
@@ -54,7 +54,7 @@ fn top(state: &[u32; 128], first: usize, out: usize) -> u32
     let mut best: u32 = 0;
     let mut i = first;
     while i < out {
-        best = larger(best, jobs::word_at(state, 4 * i));
+        best = larger(best, state[4 * i]);
         i += 1;
     }
     best
@@ -89,7 +89,7 @@ pub fn weight(set: &[u32; 322], state: &[u32; 128], i: usize) -> u32
     ensures { λ r. ⌜ Weighs (now (set .entry)) (now (state .entry)) i r ⌝ }
 {
     if i < jobs::jobs(set) {
-        return jobs::word_at(state, 4 * i) / 32;
+        return state[4 * i] / 32;
     }
     0
 }
@@ -106,7 +106,7 @@ pub fn above(set: &[u32; 322], state: &[u32; 128], out: usize, w: u32, e: u32) -
         if e <= release {
             return e;
         }
-        if w < jobs::word_at(state, 4 * i) / 32 {
+        if w < state[4 * i] / 32 {
             return release;
         }
         i += 1;

@@ -10,7 +10,7 @@ use crate::tally;
 use kernel::jobs;
 
 // The switch x as the next node, with all that may follow it. Nodes from number `cap` on are left out. Job `first` is the first unfinished one, and the first `out`
-// jobs are released before the dispatch.
+// jobs are released by the tick of the dispatch.
 pub fn hang(
     set: &[u32; 322],
     state: &mut [u32; 128],

@@ -19,6 +19,9 @@ pub fn put(nodes: &mut [u32], at: u32, parent: u32, x: Switch, job: u32, segment
     ensures { λ _. ⌜ now (nodes .exit) ≡ sets (now (nodes .entry)) (8 * at) (rowOf parent x job segment) ⌝ }
 {
     let i = 8 * (at as usize);
+    if nodes.len() <= i {
+        return;
+    }
     store(nodes, i, parent);
     store(nodes, i + 1, x.kind);
     store(nodes, i + 2, job);

@@ -19,10 +19,10 @@ pub fn of_job(state: &[u32; 128], i: usize) -> Standing
     ensures { λ r. ⌜ r ≡ standingAt (now (state .entry)) i ⌝ }
 {
     Standing {
-        key: jobs::word_at(state, 4 * i),
-        segment: jobs::word_at(state, 4 * i + 1),
-        least: jobs::word_at(state, 4 * i + 2),
-        most: jobs::word_at(state, 4 * i + 3),
+        key: state[4 * i],
+        segment: state[4 * i + 1],
+        least: state[4 * i + 2],
+        most: state[4 * i + 3],
     }
 }
 

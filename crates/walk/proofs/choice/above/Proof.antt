@@ -32,22 +32,24 @@ returns c =
     let inv = at .loop .inv in
     aboves-none (entry .args .set .now) (entry .args .state .now) (entry .pre) _ _ _ (at .loop .i) (inv .2) (λ h. omega (arith, c .if1 .taken, c .before .release .ensures))
 
-mul-word-at : tie.Need-mul-word-at Inv-loop μ-loop
-mul-word-at c = search needs
+mul-if2 : tie.Need-mul-if2 Inv-loop μ-loop
+mul-if2 c = search needs
 
-word-at-requires : tie.Need-word-at-requires Inv-loop μ-loop
-word-at-requires c κs = search needs
+mul-if2-2 : tie.Need-mul-if2-2 Inv-loop μ-loop
+mul-if2-2 c = search needs
+
+element-copy-out-if2 : tie.Need-element-copy-out-if2 Inv-loop μ-loop
+element-copy-out-if2 c = search needs
 
 returns-2 : tie.Need-returns-2 Inv-loop μ-loop
 returns-2 c =
-    let word = c .before in
-    let test = word .before .before in
+    let test = c .before .before in
     let at = test .before .before .before in
     let entry = at .before .before in
     let inv = at .loop .inv in
     rw (test .before .release .ensures)
     (aboves-some (entry .args .set .now) (entry .args .state .now) (entry .pre) _ _ _ (at .loop .i) (inv .2) (omega (arith, inv .0, test .before .before .loop-test .taken)) (inv .1)
-    (omega (arith, test .if1 .left, test .before .release .ensures)) (rw (word .word-at .ensures) at (c .if2 .taken)))
+    (omega (arith, test .if1 .left, test .before .release .ensures)) (c .if2 .taken))
 
 add-i : tie.Need-add-i Inv-loop μ-loop
 add-i c = search needs
@@ -57,14 +59,14 @@ loop-less c = search needs
 
 loop-again : tie.Need-loop-again Inv-loop μ-loop
 loop-again c =
-    let word = c .before in
-    let at = word .before .before .before .before .before in
+    let at = c .before .before .before .before .before in
+    let entry = at .before .before in
     let inv = at .loop .inv in
     let i = at .loop .i in (
       inv .0,
       omega (arith, inv .1),
-      λ j (p : at .before .before .args .out ≤ j) (h : j < i + 1). below (λ j. at .before .before .args .out ≤ j → getD (at .before .before .args .state .now) (4 * j) 0 / 32 ≤ at .before .before .args .w) i (λ j q p. inv .2 j p q)
-          (λ p. rw (word .word-at .ensures) at (c .if2 .left)) j (omega arith) p,
+      λ j (p : entry .args .out ≤ j) (h : j < i + 1). below (λ j. entry .args .out ≤ j → getD (entry .args .state .now) (4 * j) 0 / 32 ≤ entry .args .w) i
+          (λ j q p. inv .2 j p q) (λ p. c .if2 .left) j (omega arith) p,
     )
 
 returns-3 : tie.Need-returns-3 Inv-loop μ-loop
@@ -84,8 +86,9 @@ above-spec =
     loop-holds
     release-requires
     returns
-    mul-word-at
-    word-at-requires
+    mul-if2
+    mul-if2-2
+    element-copy-out-if2
     returns-2
     add-i
     loop-less

@@ -23,20 +23,23 @@ loop-holds c =
     let asked = c .before .pre in
     (omega (arith, asked .inside, c .jobs .ensures), c .jobs .ensures, asked .ended)
 
-mul-word-at : tie.Need-mul-word-at Inv-loop μ-loop
-mul-word-at c = search needs
+mul-if1 : tie.Need-mul-if1 Inv-loop μ-loop
+mul-if1 c = search needs
 
-word-at-requires : tie.Need-word-at-requires Inv-loop μ-loop
-word-at-requires c κs = search needs
+mul-if1-2 : tie.Need-mul-if1-2 Inv-loop μ-loop
+mul-if1-2 c = search needs
+
+element-copy-out-if1 : tie.Need-element-copy-out-if1 Inv-loop μ-loop
+element-copy-out-if1 c = search needs
 
 returns : tie.Need-returns Inv-loop μ-loop
 returns c =
-    let at = c .before .before .before .before in
+    let at = c .before .before .before in
     let entry = at .before .before in
     let inv = at .loop .inv in
     record {
       before = record { loaded = entry .pre .loaded; inside = omega (arith, inv .0, inv .1); ended = inv .2 };
-      unfinished = λ h. rw (c .before .word-at .ensures) at (c .if1 .taken);
+      unfinished = λ h. c .if1 .taken;
     }
 
 add-i : tie.Need-add-i Inv-loop μ-loop
@@ -47,13 +50,12 @@ loop-less c = search needs
 
 loop-again : tie.Need-loop-again Inv-loop μ-loop
 loop-again c =
-    let at = c .before .before .before .before in
+    let at = c .before .before .before in
     let inv = at .loop .inv in
     let i = at .loop .i in (
-      omega (arith, c .before .before .before .loop-test .taken),
+      omega (arith, c .before .before .loop-test .taken),
       inv .1,
-      λ j (h : j < i + 1). below (λ j. getD (at .before .before .args .state .now) (4 * j) 0 ≡ 0) i (inv .2)
-          (omega (arith, c .if1 .left, c .before .word-at .ensures)) j (omega arith),
+      λ j (h : j < i + 1). below (λ j. getD (at .before .before .args .state .now) (4 * j) 0 ≡ 0) i (inv .2) (omega (arith, c .if1 .left)) j (omega arith),
     )
 
 returns-2 : tie.Need-returns-2 Inv-loop μ-loop
@@ -74,8 +76,9 @@ first-unfinished-spec =
     μ-loop
     jobs-requires
     loop-holds
-    mul-word-at
-    word-at-requires
+    mul-if1
+    mul-if1-2
+    element-copy-out-if1
     returns
     add-i
     loop-less

@@ -1,6 +1,6 @@
 use Prim.Native.Nat.{_-_, _*_, _≤_}
 use native.Mathlib.Omega.{arith}
-use mathlib.Core.Path.{_≡_, sym}
+use mathlib.Core.Path.{_≡_, refl}
 use lib.ListN.{getD}
 use borrow.Author.Needs.{needs}
 use Rattle.kernel.specs.Jobs.{largest}
@@ -19,11 +19,14 @@ loop-holds c =
     let asked = c .pre in
     (asked .order, omega (arith, largest-le (λ j. getD (c .args .state .now) (4 * j) 0) (c .args .first) 0 (λ j h. omega (arith, asked .ended j h))))
 
-mul-word-at : tie.Need-mul-word-at Inv-loop μ-loop
-mul-word-at c = search needs
+mul-larger : tie.Need-mul-larger Inv-loop μ-loop
+mul-larger c = search needs
 
-word-at-requires : tie.Need-word-at-requires Inv-loop μ-loop
-word-at-requires c κs = search needs
+mul-larger-2 : tie.Need-mul-larger-2 Inv-loop μ-loop
+mul-larger-2 c = search needs
+
+element-copy-out-larger : tie.Need-element-copy-out-larger Inv-loop μ-loop
+element-copy-out-larger c = search needs
 
 larger-requires : tie.Need-larger-requires Inv-loop μ-loop
 larger-requires c κs = search needs
@@ -36,9 +39,9 @@ loop-less c = search needs
 
 loop-again : tie.Need-loop-again Inv-loop μ-loop
 loop-again c =
-    let at = c .before .before .before .before in
+    let at = c .before .before .before in
     let inv = at .loop .inv in
-    (omega (arith, c .before .before .before .loop-test .taken), largest-more _ (at .loop .i) _ _ _ (inv .1) (c .before .word-at .ensures) (c .larger .ensures))
+    (omega (arith, c .before .before .loop-test .taken), largest-more _ (at .loop .i) _ _ _ (inv .1) refl (c .larger .ensures))
 
 returns : tie.Need-returns Inv-loop μ-loop
 returns c =
@@ -52,8 +55,9 @@ top-spec =
     Inv-loop
     μ-loop
     loop-holds
-    mul-word-at
-    word-at-requires
+    mul-larger
+    mul-larger-2
+    element-copy-out-larger
     larger-requires
     add-i
     loop-less

@@ -4,7 +4,7 @@ use native.Mathlib.Omega.{arith}
 use native.Mathlib.Nat.{pos-of-ne-zero}
 use mathlib.Core.Path.{refl}
 use borrow.Author.Needs.{needs}
-use Rattle.walk.specs.Count.{countOf}
+use Rattle.walk.specs.Count.{countOf, Few}
 use Rattle.walk.specs.Laws.Twigs.{job-fits}
 use Rattle.walk.proofs.Hanging.{hung-past, hang-few, hung-last, hang-fits, hang-grows, hung-job}
 use Rattle.walk.proofs.Growing.{grown-none, late-fits, early-fits, grow-leaves, grown-left, grow-cuts, grown-cut}
@@ -148,10 +148,11 @@ grow-returns-3 t c =
     grown-cut (start .pre .1) (job .of-job .ensures) (pos-of-ne-zero (job .before .before .if1 .left))
     refl refl (above .before .before .before .released .ensures) (above .before .weight .ensures) (above .above .ensures) (left .leave .ensures) (c .before .before .cut-off .ensures)
 
-hang-few-last : (t : ℕ) → hang-lts.Need-with-order-requires (hang-calls t) (hang-at t) hang.Post
-hang-few-last t c κs =
-    let counted = c .before .before .before .before .before .before .before in
-    hang-few (counted .before .before .before .pre .1) (counted .before .nodes .ensures) (counted .if1 .left)
+hang-few-at : (t : ℕ) (counted : hang-lts.Else1 (hang-calls t) (hang-at t) hang.Post) → Few (countOf (counted .before .before .before .args .seen))
+hang-few-at t counted = hang-few (counted .before .before .before .pre .1) (counted .before .nodes .ensures) (counted .if1 .left)
+
+hang-fits-at : (t : ℕ) (some : hang-lts.Else2 (hang-calls t) (hang-at t) hang.Post) → some .before .before .before .before .before .before .args .x .job < 32
+hang-fits-at t some = hang-fits (some .before .before .before .before .before .before .pre .1) (some .before .before .before .before .nodes .ensures) (some .before .jobs .ensures) (some .if2 .left)
 
 hang-returns-2 : (t : ℕ) → hang-lts.Need-returns-2 (hang-calls t) (hang-at t) hang.Post
 hang-returns-2 t c =
@@ -159,23 +160,6 @@ hang-returns-2 t c =
     let counted = none .before .before .before in
     hung-last (counted .before .before .before .pre .1) (counted .before .nodes .ensures) (counted .if1 .left) (none .before .jobs .ensures) (none .if2 .taken)
     (c .before .before .before .put .ensures) (c .with-order .ensures)
-
-hang-of-job-requires : (t : ℕ) → hang-lts.Need-of-job-requires (hang-calls t) (hang-at t) hang.Post
-hang-of-job-requires t c κs =
-    let some = c .before in
-    let nodes = some .before .before .before .before in
-    hang-fits (nodes .before .before .pre .1) (nodes .nodes .ensures) (some .before .jobs .ensures) (some .if2 .left)
-
-hang-put-requires-3 : (t : ℕ) → hang-lts.Need-put-requires-3 (hang-calls t) (hang-at t) hang.Post
-hang-put-requires-3 t c κs =
-    let some = c .before .before .before .before .before .before .before .before in
-    let nodes = some .before .before .before .before in
-    hang-fits (nodes .before .before .pre .1) (nodes .nodes .ensures) (some .before .jobs .ensures) (some .if2 .left)
-
-hang-few-more : (t : ℕ) → hang-lts.Need-with-node-requires (hang-calls t) (hang-at t) hang.Post
-hang-few-more t c κs =
-    let counted = c .before .before .before .before .before .before .before .before .before .before .before .before in
-    hang-few (counted .before .before .before .pre .1) (counted .before .nodes .ensures) (counted .if1 .left)
 
 hang-grow-requires : (t : ℕ) → hang-lts.Need-grow-requires (hang-calls t) (hang-at t) hang.Post
 hang-grow-requires t c κs =
@@ -189,12 +173,6 @@ hang-grow-requires t c κs =
       hang-grows (start .pre .1) (counted .before .nodes .ensures) (counted .if1 .left) (some .before .jobs .ensures) (some .if2 .left)
           (job .of-job .ensures) (put .before .resumed .ensures) (put .put3 .ensures) (more .with-node .ensures),
     )
-
-hang-put-requires-4 : (t : ℕ) → hang-lts.Need-put-requires-4 (hang-calls t) (hang-at t) hang.Post
-hang-put-requires-4 t c κs =
-    let some = c .before .before .before .before .before .before .before .before .before .before .before .before .before .before .before .before in
-    let nodes = some .before .before .before .before in
-    hang-fits (nodes .before .before .pre .1) (nodes .nodes .ensures) (some .before .jobs .ensures) (some .if2 .left)
 
 hang-returns-3 : (t : ℕ) → hang-lts.Need-returns-3 (hang-calls t) (hang-at t) hang.Post
 hang-returns-3 t c =
@@ -288,16 +266,16 @@ pub +cut-off+grow+hang+leave-spec : {M : Type 1} → statement M
     (λ c. search needs)
     (λ c κs. search needs)
     (λ c κs. search needs)
-    (hang-few-last t)
+    (λ c κs. hang-few-at t (c .before .before .before .before .before .before .before))
     (λ c. search needs)
     (hang-returns-2 t)
-    (hang-of-job-requires t)
+    (λ c κs. hang-fits-at t (c .before))
     (λ c κs. search needs)
     (λ c κs. search needs)
-    (hang-put-requires-3 t)
-    (hang-few-more t)
+    (λ c κs. hang-fits-at t (c .before .before .before .before .before .before .before .before))
+    (λ c κs. hang-few-at t (c .before .before .before .before .before .before .before .before .before .before .before .before))
     (hang-grow-requires t)
-    (hang-put-requires-4 t)
+    (λ c κs. hang-fits-at t (c .before .before .before .before .before .before .before .before .before .before .before .before .before .before .before .before))
     (λ c. search needs)
     (hang-returns-3 t))
     (λ t. leave-lts.spec (leave-calls t) (leave-at t) leave.Post

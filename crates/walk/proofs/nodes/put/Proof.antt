@@ -1,11 +1,18 @@
 use Prim.Native.Nat.{_*_}
+use mathlib.Core.Path.{sym}
 use borrow.Author.Needs.{needs}
-use Rattle.walk.proofs.Rows.{eight-stores}
+use Rattle.walk.specs.Nodes.{rowOf}
+use Rattle.walk.proofs.Rows.{sets-out, eight-stores}
 use Rattle.walk.proofs.nodes.put.Statement.{statement}
 use Rattle.walk.proofs.nodes.put.Tie as tie
 
 mul-i : tie.Need-mul-i
 mul-i c = search needs
+
+returns : tie.Need-returns
+returns c =
+    let args = c .before .before .args in
+    sym (sets-out (rowOf (args .parent) (args .x) (args .job) (args .segment)) (args .nodes .now) (8 * args .at) (c .if1 .taken))
 
 store-requires : tie.Need-store-requires
 store-requires c κs = search needs
@@ -55,8 +62,8 @@ store-requires-8 c κs = search needs
 same-length : tie.Need-same-length
 same-length c = search needs
 
-returns : tie.Need-returns
-returns c =
+returns-2 : tie.Need-returns-2
+returns-2 c =
     let s8 = c .before .before in
     let s7 = s8 .before .before .before .before in
     let s6 = s7 .before .before .before .before in
@@ -65,7 +72,7 @@ returns c =
     let s3 = s4 .before .before .before .before in
     let s2 = s3 .before .before .before .before in
     let s1 = s2 .before .before .before .before in
-    let entry = s1 .before .before .before in
+    let entry = s1 .before .before .before .before in
     eight-stores (entry .args .nodes .now) (s1 .store .last .0) (s2 .store2 .last .0) (s3 .store3 .last .0) (s4 .store4 .last .0)
     (s5 .store5 .last .0) (s6 .store6 .last .0) (s7 .store7 .last .0) (s8 .store8 .last .0)
     (8 * entry .args .at) _ _ _ _ _ _ _ _
@@ -77,6 +84,7 @@ put-spec =
     tie.close
     (tie.spec
     mul-i
+    returns
     store-requires
     add-store
     store-requires-2
@@ -93,4 +101,4 @@ put-spec =
     add-store-7
     store-requires-8
     same-length
-    returns)
+    returns-2)

@@ -1,0 +1,11 @@
+pub mod Words
+pub mod Numbers
+pub mod Bytes
+pub mod Sequence
+pub mod Locks
+pub mod Forms
+pub mod Known
+pub mod Text
+pub mod Packing
+pub mod Drafts
+pub mod Laws
