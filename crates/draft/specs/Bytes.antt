@@ -11,11 +11,11 @@ abbrev pub two : ℕ → List ℕ
 two n = n % 256 ∷ n / 256 % 256 ∷ []
 
 -- FR (46 52) frame 4; JB (4A 42) release 4, priority 1, segment count 1; SG (53 47) shortest 4, longest 4, held locks 2
-unfoldable pub recordBytes : Record → List ℕ
-recordBytes (Frame f) = 0x46 ∷ 0x52 ∷ four f
-recordBytes (Job r p n) = (0x4a ∷ 0x42 ∷ four r) ++ p ∷ n ∷ []
-recordBytes (Segment l h m) = (0x53 ∷ 0x47 ∷ four l) ++ four h ++ two m
+unfoldable pub record_bytes : Record → List ℕ
+record_bytes (Frame f) = 0x46 ∷ 0x52 ∷ four f
+record_bytes (Job r p n) = (0x4a ∷ 0x42 ∷ four r) ++ p ∷ n ∷ []
+record_bytes (Segment l h m) = (0x53 ∷ 0x47 ∷ four l) ++ four h ++ two m
 
 unfoldable pub bytes_of : List Record → List ℕ
 bytes_of [] = []
-bytes_of (r ∷ rs) = recordBytes r ++ bytes_of rs
+bytes_of (r ∷ rs) = record_bytes r ++ bytes_of rs

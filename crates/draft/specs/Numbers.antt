@@ -3,26 +3,26 @@ use Rattle.std.specs.Prelude.{ℕ, ◌+◌, ◌*◌, ◌-◌, List, [], ◌∷�
 use Rattle.draft.specs.declared.text.Number.{Number}
 use Rattle.draft.specs.declared.text.Number.TheVariants.{Is, Not}
 
-abbrev pub isDigit : ℕ → Bool
-isDigit b = leb 48 b && leb b 57
+abbrev pub is_digit : ℕ → Bool
+is_digit b = leb 48 b && leb b 57
 
-unfoldable pub allDigits : List ℕ → Bool
-allDigits [] = true
-allDigits (x ∷ xs) = isDigit x && allDigits xs
+unfoldable pub all_digits : List ℕ → Bool
+all_digits [] = true
+all_digits (x ∷ xs) = is_digit x && all_digits xs
 
 -- the number that digits make, where v stands before them
-unfoldable pub valueFrom : ℕ → List ℕ → ℕ
-valueFrom v [] = v
-valueFrom v (x ∷ xs) = valueFrom (10 * v + (x - 48)) xs
+unfoldable pub value_from : ℕ → List ℕ → ℕ
+value_from v [] = v
+value_from v (x ∷ xs) = value_from (10 * v + (x - 48)) xs
 
 -- this number, where it is one and not above the limit
 abbrev pub within : ℕ → Bool → ℕ → Number
 within most digits v = cond (digits && leb v most) (Is v) Not
 
-unfoldable pub numberFrom : ℕ → ℕ → List ℕ → Number
-numberFrom most v w = within most (allDigits w) (valueFrom v w)
+unfoldable pub number_from : ℕ → ℕ → List ℕ → Number
+number_from most v w = within most (all_digits w) (value_from v w)
 
 -- the number that a word is; no number where the word is missing
 unfoldable pub number_of : ℕ → List ℕ → Number
 number_of most [] = Not
-number_of most (x ∷ xs) = numberFrom most 0 (x ∷ xs)
+number_of most (x ∷ xs) = number_from most 0 (x ∷ xs)

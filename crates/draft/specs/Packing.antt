@@ -1,7 +1,7 @@
 -- What packing a text answers.
 use Rattle.std.specs.Prelude.{ℕ, ◌+◌, ◌≡◌, List, [], ◌∷◌, cond, length, eqb}
 use Rattle.std.proofs.lemmas.List.Edits.{sets}
-use Rattle.draft.specs.Text.{Lined, Told, says_of, linedBytes}
+use Rattle.draft.specs.Text.{Lined, Told, says_of, lined_bytes}
 use Rattle.draft.specs.declared.Packed.{Packed}
 use Rattle.table.specs.Records.{size_of}
 use Rattle.table.specs.Refusal.{Refusal, refusal}
@@ -12,8 +12,8 @@ line_at at place [] other = other
 line_at at place (r ∷ rs) other = cond (eqb at place) r.line (line_at (at + size_of r.what) place rs other)
 
 -- the first number, and the other one where it is 0
-abbrev pub orLast : ℕ → ℕ → ℕ
-orLast n last = cond (eqb n 0) last n
+abbrev pub or_last : ℕ → ℕ → ℕ
+or_last n last = cond (eqb n 0) last n
 
 -- an answer: the cause (0 for none), its line, and the bytes
 pub record Answer : Type 0 where
@@ -25,15 +25,15 @@ pub record Answer : Type 0 where
 -- the text's last line where no record stands there
 abbrev pub judged : Told → Refusal → Answer
 judged told r =
-    cond (eqb r.number 0) (record { cause = 0; line = 0; bytes = linedBytes told.records })
-    (record { cause = 20 + r.number; line = orLast (line_at 0 r.place told.records 0) told.line; bytes = [] })
+    cond (eqb r.number 0) (record { cause = 0; line = 0; bytes = lined_bytes told.records })
+    (record { cause = 20 + r.number; line = or_last (line_at 0 r.place told.records 0) told.line; bytes = [] })
 
-abbrev pub answerTo : Told → Answer
-answerTo told =
-    cond (eqb told.cause 0) (judged told (refusal (linedBytes told.records))) (record { cause = told.cause; line = told.line; bytes = [] })
+abbrev pub answer_to : Told → Answer
+answer_to told =
+    cond (eqb told.cause 0) (judged told (refusal (lined_bytes told.records))) (record { cause = told.cause; line = told.line; bytes = [] })
 
-unfoldable pub packOf : List ℕ → Answer
-packOf s = answerTo (says_of s)
+unfoldable pub pack_of : List ℕ → Answer
+pack_of s = answer_to (says_of s)
 
 -- the answer is given: with a cause the caller's bytes are as they were, and else the table's stand at their start
 pub record Gives (before after : List ℕ) (r : Packed) (a : Answer) : Type 0 where

@@ -1,6 +1,6 @@
 -- Records in the table's sequence, with right counts and numbers that fit their fields; and their places in the bytes.
 use Rattle.std.specs.Prelude.{ℕ, ◌+◌, ◌<◌, ◌≡◌, List, [], ◌∷◌}
-use Rattle.table.specs.Records.{Placed, size_of, placeAfter}
+use Rattle.table.specs.Records.{Placed, size_of, place_after}
 use Rattle.table.specs.declared.records.Place.{Place}
 use Rattle.table.specs.declared.records.Place.TheVariants.{First, Next, Within}
 use Rattle.table.specs.declared.records.Record.{Record}
@@ -21,9 +21,9 @@ pub data Stands : Place → Record → Type 0 where
 -- the records may stand one after the other from where p is due, and after them q is due
 unfoldable pub Leads : Place → List Record → Place → Type 0
 Leads p [] q = p ≡ q
-Leads p (r ∷ rs) q = Stands p r × Fits r × Leads (placeAfter p r) rs q
+Leads p (r ∷ rs) q = Stands p r × Fits r × Leads (place_after p r) rs q
 
 -- the records, with the places of their marks, the first at `at`
-unfoldable pub placedFrom : ℕ → List Record → List Placed
-placedFrom at [] = []
-placedFrom at (r ∷ rs) = record { at = at; what = r } ∷ placedFrom (at + size_of r) rs
+unfoldable pub placed_from : ℕ → List Record → List Placed
+placed_from at [] = []
+placed_from at (r ∷ rs) = record { at = at; what = r } ∷ placed_from (at + size_of r) rs

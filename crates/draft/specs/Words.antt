@@ -2,18 +2,18 @@
 use Rattle.std.specs.Prelude.{ℕ, suc, ◌<◌, ◌≡◌, List, [], ◌∷◌, ◌++◌, Bool, true, false, cond, not, ◌||◌, ◌&&◌, drop, eqb}
 
 -- space, tab and carriage return
-abbrev pub isWhite : ℕ → Bool
-isWhite b = eqb b 32 || eqb b 9 || eqb b 13
+abbrev pub is_white : ℕ → Bool
+is_white b = eqb b 32 || eqb b 9 || eqb b 13
 
 -- the words of a line end at a newline and at a `#`
-abbrev pub isEnding : ℕ → Bool
-isEnding b = eqb b 10 || eqb b 35
+abbrev pub is_ending : ℕ → Bool
+is_ending b = eqb b 10 || eqb b 35
 
-abbrev pub isWordly : ℕ → Bool
-isWordly b = not (isWhite b || isEnding b)
+abbrev pub is_wordly : ℕ → Bool
+is_wordly b = not (is_white b || is_ending b)
 
-abbrev pub isInLine : ℕ → Bool
-isInLine b = not (eqb b 10)
+abbrev pub is_in_line : ℕ → Bool
+is_in_line b = not (eqb b 10)
 
 -- a word that is complete; nothing where it has no byte
 abbrev pub closed : List ℕ → List (List ℕ)
@@ -21,13 +21,13 @@ closed [] = []
 closed (x ∷ xs) = (x ∷ xs) ∷ []
 
 -- the words of the line that s starts with, where the bytes w of a word stand before s
-unfoldable pub wordsFrom : List ℕ → List ℕ → List (List ℕ)
-wordsFrom w [] = closed w
-wordsFrom w (x ∷ xs) = cond (isEnding x) (closed w) (cond (isWhite x) (closed w ++ wordsFrom [] xs) (wordsFrom (w ++ x ∷ []) xs))
+unfoldable pub words_from : List ℕ → List ℕ → List (List ℕ)
+words_from w [] = closed w
+words_from w (x ∷ xs) = cond (is_ending x) (closed w) (cond (is_white x) (closed w ++ words_from [] xs) (words_from (w ++ x ∷ []) xs))
 
 -- the words of the line that s starts with
 abbrev pub words_of : List ℕ → List (List ℕ)
-words_of s = wordsFrom [] s
+words_of s = words_from [] s
 
 -- the first of the words, empty where there is none, and the others
 abbrev pub first : List (List ℕ) → List ℕ

@@ -1,7 +1,7 @@
 // The bytes of the records.
 ghost use Rattle.std.specs.Prelude.{◌≡◌, [], ◌∷◌, ◌+◌, ◌%◌, ◌≤◌, get_or, set};
 ghost use Rattle.std.proofs.lemmas.List.Edits.{sets};
-ghost use Rattle.draft.specs.Bytes.{four, recordBytes};
+ghost use Rattle.draft.specs.Bytes.{four, record_bytes};
 ghost use Rattle.table.specs.declared.records.Record.TheVariants.{Frame, Job, Segment};
 
 pub fn byte_of(bytes: &[u8], i: usize) -> u8
@@ -48,7 +48,7 @@ fn put_two(bytes: &mut [u8], i: usize, a: u8, b: u8)
 
 pub fn put_frame(bytes: &mut [u8], i: usize, frame: u32)
     requires { i ≤ 4096 }
-    ensures { bytes.new ≡ sets bytes.old i (recordBytes (Frame frame)) }
+    ensures { bytes.new ≡ sets bytes.old i (record_bytes (Frame frame)) }
 {
     put_two(bytes, i, 0x46, 0x52);
     put_four(bytes, i + 2, frame);
@@ -57,7 +57,7 @@ pub fn put_frame(bytes: &mut [u8], i: usize, frame: u32)
 // A job that has no segment yet.
 pub fn put_job(bytes: &mut [u8], i: usize, release: u32, priority: u8)
     requires { i ≤ 4096 }
-    ensures { bytes.new ≡ sets bytes.old i (recordBytes (Job release priority 0)) }
+    ensures { bytes.new ≡ sets bytes.old i (record_bytes (Job release priority 0)) }
 {
     put_two(bytes, i, 0x4a, 0x42);
     put_four(bytes, i + 2, release);
@@ -66,7 +66,7 @@ pub fn put_job(bytes: &mut [u8], i: usize, release: u32, priority: u8)
 
 pub fn put_segment(bytes: &mut [u8], i: usize, shortest: u32, longest: u32, held: u16)
     requires { i ≤ 4096 }
-    ensures { bytes.new ≡ sets bytes.old i (recordBytes (Segment shortest longest held)) }
+    ensures { bytes.new ≡ sets bytes.old i (record_bytes (Segment shortest longest held)) }
 {
     put_two(bytes, i, 0x53, 0x47);
     put_four(bytes, i + 2, shortest);

@@ -1,8 +1,8 @@
 // The table that the lines so far say, as its bytes.
 ghost use Rattle.std.specs.Prelude.{◌≡◌, List, ℕ, length, get_or, set, drop};
 ghost use Rattle.draft.specs.Words.{words_of};
-ghost use Rattle.draft.specs.Text.{Draw, start, nextLine, withFrame, withJob, withSegment, withLine, readLine, ended as endedDraw, drawOf};
-ghost use Rattle.draft.specs.Drafts.{Inside, Drawn, Follows, bareIn, withCause};
+ghost use Rattle.draft.specs.Text.{Draw, start, next_line, with_frame, with_job, with_segment, with_line, read_line, ended as endedDraw, draw_of};
+ghost use Rattle.draft.specs.Drafts.{Inside, Drawn, Follows, bare_in, with_cause};
 ghost use Rattle.table.specs.declared.records.Record.TheVariants.{Segment as SegmentRecord};
 
 use crate::forms::Line;
@@ -43,7 +43,7 @@ fn note(lines: &mut [u32], at: usize, line: u32)
 
 // The number of the next line; the numbers end at the largest.
 fn next_line(line: u32) -> u32
-    ensures { result ≡ nextLine line }
+    ensures { result ≡ next_line line }
 {
     if line < 4294967295 {
         return line + 1;
@@ -68,7 +68,7 @@ impl Draft {
 
     fn refused(mut self, cause: u32, line: u32) -> Draft
         requires { Inside self }
-        ensures { Inside result × (result ≡ withCause self cause line) }
+        ensures { Inside result × (result ≡ with_cause self cause line) }
     {
         self.cause = cause;
         self.line = line;
@@ -77,7 +77,7 @@ impl Draft {
 
     // The last job has no segment.
     fn bare(self) -> bool
-        ensures { result ≡ bareIn self }
+        ensures { result ≡ bare_in self }
     {
         if self.job == 0 {
             return false;
@@ -87,7 +87,7 @@ impl Draft {
 
     fn with_frame(mut self, made: &mut [u8], lines: &mut [u32], line: u32, frame: u32) -> Draft
         requires { Inside self }
-        ensures { Inside result × Follows made.old lines.old made.new lines.new self result (withFrame line frame) }
+        ensures { Inside result × Follows made.old lines.old made.new lines.new self result (with_frame line frame) }
     {
         if self.length != 0 {
             return self.refused(5, line);
@@ -107,7 +107,7 @@ impl Draft {
         priority: u8,
     ) -> Draft
         requires { Inside self }
-        ensures { Inside result × Follows made.old lines.old made.new lines.new self result (withJob line release priority) }
+        ensures { Inside result × Follows made.old lines.old made.new lines.new self result (with_job line release priority) }
     {
         let at = self.length;
         if at == 0 {
@@ -138,7 +138,7 @@ impl Draft {
         held: u16,
     ) -> Draft
         requires { Inside self }
-        ensures { Inside result × Follows made.old lines.old made.new lines.new self result (withSegment line (SegmentRecord shortest longest held)) }
+        ensures { Inside result × Follows made.old lines.old made.new lines.new self result (with_segment line (SegmentRecord shortest longest held)) }
     {
         let at = self.length;
         let job = self.job;
@@ -165,7 +165,7 @@ impl Draft {
 
     fn with(self, made: &mut [u8], lines: &mut [u32], line: u32, what: Line) -> Draft
         requires { Inside self }
-        ensures { Inside result × Follows made.old lines.old made.new lines.new self result (withLine line what) }
+        ensures { Inside result × Follows made.old lines.old made.new lines.new self result (with_line line what) }
     {
         match what {
             Line::Nothing => self,
@@ -188,7 +188,7 @@ impl Draft {
         line: u32,
     ) -> Draft
         requires { Inside self }
-        ensures { Inside result × ((blank : List ℕ) (x : Draw) → Drawn text.now blank made.old lines.old self x → Drawn text.now blank made.new lines.new result (readLine line (words_of (drop at text.now)) x)) }
+        ensures { Inside result × ((blank : List ℕ) (x : Draw) → Drawn text.now blank made.old lines.old self x → Drawn text.now blank made.new lines.new result (read_line line (words_of (drop at text.now)) x)) }
     {
         if self.cause != 0 {
             return self;
@@ -222,7 +222,7 @@ impl Draft {
 // The table that a text says.
 pub fn collect(text: &[u8], made: &mut [u8], lines: &mut [u32]) -> Draft
     requires { (length made.old ≡ 4096) × (length lines.old ≡ 4096) × ((k : ℕ) → get_or lines.old k 0 ≡ 0) }
-    ensures { Inside result × Drawn text.now made.old made.new lines.new result (drawOf text.now) }
+    ensures { Inside result × Drawn text.now made.old made.new lines.new result (draw_of text.now) }
 {
     let mut draft = Draft::new();
     let mut at = 0;

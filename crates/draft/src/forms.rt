@@ -1,7 +1,7 @@
 // What one line of a text says.
 ghost use Rattle.std.specs.Prelude.{◌≡◌, List, ℕ, drop};
 ghost use Rattle.draft.specs.Words.{words_of};
-ghost use Rattle.draft.specs.Forms.{frameSays, prioritySays, releaseSays, jobSays, heldSays, holdsSays, segmentSays, lineSays};
+ghost use Rattle.draft.specs.Forms.{frame_says, priority_says, release_says, job_says, held_says, holds_says, segment_says, line_says};
 ghost use Rattle.draft.specs.Known.{Knows, SaidIs};
 
 use crate::locks::Names;
@@ -30,7 +30,7 @@ pub struct Said {
 }
 
 fn frame(text: &[u8], at: usize) -> Line
-    ensures { result ≡ frameSays (words_of (drop at text.now)) }
+    ensures { result ≡ frame_says (words_of (drop at text.now)) }
 {
     let Number::Is(n) = text::number_in(text::word(text, at), 4294967295) else {
         return Line::Fault(2);
@@ -43,7 +43,7 @@ fn frame(text: &[u8], at: usize) -> Line
 
 // From the priority's number on.
 fn priority(text: &[u8], at: usize, release: u32) -> Line
-    ensures { result ≡ prioritySays release (words_of (drop at text.now)) }
+    ensures { result ≡ priority_says release (words_of (drop at text.now)) }
 {
     let Number::Is(n) = text::number_in(text::word(text, at), 255) else {
         return Line::Fault(2);
@@ -56,7 +56,7 @@ fn priority(text: &[u8], at: usize, release: u32) -> Line
 
 // From the release's number on.
 fn release(text: &[u8], at: usize) -> Line
-    ensures { result ≡ releaseSays (words_of (drop at text.now)) }
+    ensures { result ≡ release_says (words_of (drop at text.now)) }
 {
     let Number::Is(n) = text::number_in(text::word(text, at), 4294967295) else {
         return Line::Fault(2);
@@ -70,7 +70,7 @@ fn release(text: &[u8], at: usize) -> Line
 
 // From the name on.
 fn job(text: &[u8], at: usize) -> Line
-    ensures { result ≡ jobSays (words_of (drop at text.now)) }
+    ensures { result ≡ job_says (words_of (drop at text.now)) }
 {
     if text::at_end(text, at) {
         return Line::Fault(3);
@@ -84,7 +84,7 @@ fn job(text: &[u8], at: usize) -> Line
 
 // From the first lock's name on.
 fn held(text: &[u8], at: usize, known: Names, shortest: u32, longest: u32) -> Said
-    ensures { (ns : List (List ℕ)) → Knows text.now known ns → SaidIs text.now result (heldSays ns shortest longest (words_of (drop at text.now))) }
+    ensures { (ns : List (List ℕ)) → Knows text.now known ns → SaidIs text.now result (held_says ns shortest longest (words_of (drop at text.now))) }
 {
     if text::at_end(text, at) {
         return Said {
@@ -108,7 +108,7 @@ fn held(text: &[u8], at: usize, known: Names, shortest: u32, longest: u32) -> Sa
 
 // From after the longest time on.
 fn holds(text: &[u8], at: usize, known: Names, shortest: u32, longest: u32) -> Said
-    ensures { (ns : List (List ℕ)) → Knows text.now known ns → SaidIs text.now result (holdsSays ns shortest longest (words_of (drop at text.now))) }
+    ensures { (ns : List (List ℕ)) → Knows text.now known ns → SaidIs text.now result (holds_says ns shortest longest (words_of (drop at text.now))) }
 {
     if text::at_end(text, at) {
         return Said {
@@ -127,7 +127,7 @@ fn holds(text: &[u8], at: usize, known: Names, shortest: u32, longest: u32) -> S
 
 // From the shortest time on.
 fn segment(text: &[u8], at: usize, known: Names) -> Said
-    ensures { (ns : List (List ℕ)) → Knows text.now known ns → SaidIs text.now result (segmentSays ns (words_of (drop at text.now))) }
+    ensures { (ns : List (List ℕ)) → Knows text.now known ns → SaidIs text.now result (segment_says ns (words_of (drop at text.now))) }
 {
     let Number::Is(shortest) = text::number_in(text::word(text, at), 4294967295) else {
         return Said {
@@ -147,7 +147,7 @@ fn segment(text: &[u8], at: usize, known: Names) -> Said
 
 // The line at a place.
 pub fn line_at(text: &[u8], at: usize, known: Names) -> Said
-    ensures { (ns : List (List ℕ)) → Knows text.now known ns → SaidIs text.now result (lineSays ns (words_of (drop at text.now))) }
+    ensures { (ns : List (List ℕ)) → Knows text.now known ns → SaidIs text.now result (line_says ns (words_of (drop at text.now))) }
 {
     if text::at_end(text, at) {
         return Said {

@@ -1,7 +1,7 @@
 // Job tables written as text, turned into table bytes.
 ghost use Rattle.std.specs.Prelude.{◌≡◌, ◌+◌, ◌≤◌, length, get_or, take};
 ghost use Rattle.std.proofs.lemmas.List.Edits.{sets};
-ghost use Rattle.draft.specs.Packing.{orLast, packOf, Gives};
+ghost use Rattle.draft.specs.Packing.{or_last, pack_of, Gives};
 
 use table::Table;
 
@@ -51,7 +51,7 @@ fn shown(refusal: u32) -> u32
 
 // The line of the record whose mark stands at a place; the text's last line where no record stands there.
 fn line_of(lines: &[u32], place: usize, last: u32) -> u32
-    ensures { result ≡ orLast (get_or lines.now place 0) last }
+    ensures { result ≡ or_last (get_or lines.now place 0) last }
 {
     let line = draft::noted(lines, place);
     if line == 0 {
@@ -62,7 +62,7 @@ fn line_of(lines: &[u32], place: usize, last: u32) -> u32
 
 // Turns a text into the bytes of the table that it says.
 pub fn pack(text: &[u8], out: &mut [u8; 4096]) -> Packed
-    ensures { Gives out.old out.new result (packOf text.now) }
+    ensures { Gives out.old out.new result (pack_of text.now) }
 {
     let mut made = [0u8; 4096];
     let mut lines = [0u32; 4096];

@@ -3,7 +3,7 @@ ghost use Rattle.std.specs.Prelude.{◌≡◌, cond, List, [], ℕ, ◌^◌, ◌
 ghost use Rattle.std.specs.Int.Bits.{bit_or};
 ghost use Rattle.draft.specs.Words.{words_of};
 ghost use Rattle.draft.specs.Locks.{number_in};
-ghost use Rattle.draft.specs.Known.{Knows, word_at, withName, LocksAre};
+ghost use Rattle.draft.specs.Known.{Knows, word_at, with_name, LocksAre};
 
 use crate::text;
 
@@ -44,7 +44,7 @@ impl Names {
 
     // One name more, where there is room.
     fn with(mut self, at: usize) -> Names
-        ensures { result ≡ withName self at }
+        ensures { result ≡ with_name self at }
     {
         let n = self.count;
         if n < 16 {
@@ -57,7 +57,7 @@ impl Names {
 
     // The names, with the one that stands at a place and has a number.
     fn knowing(self, k: usize, at: usize) -> Names
-        ensures { result ≡ cond (ltb k self.count) self (withName self at) }
+        ensures { result ≡ cond (ltb k self.count) self (with_name self at) }
     {
         if k < self.count {
             return self;

@@ -1,7 +1,7 @@
 // Words and numbers in the bytes of a text.
 ghost use Rattle.std.specs.Prelude.{◌≡◌, ◌||◌, ◌+◌, ◌*◌, ◌-◌, get_or, drop};
-ghost use Rattle.draft.specs.Words.{isWhite, isEnding, isWordly, isInLine, run, words_of, first, none, Passed, same as sameWord};
-ghost use Rattle.draft.specs.Numbers.{isDigit, within, number_of};
+ghost use Rattle.draft.specs.Words.{is_white, is_ending, is_wordly, is_in_line, run, words_of, first, none, Passed, same as sameWord};
+ghost use Rattle.draft.specs.Numbers.{is_digit, within, number_of};
 
 // Past the end of the text stands the end of its last line.
 pub fn byte_at(text: &[u8], i: usize) -> u8
@@ -24,33 +24,33 @@ pub fn either(a: bool, b: bool) -> bool
 
 // Space, tab or carriage return.
 fn white(b: u8) -> bool
-    ensures { result ≡ isWhite b }
+    ensures { result ≡ is_white b }
 {
     either(either(b == 32, b == 9), b == 13)
 }
 
 // The words of a line end at a newline and at a `#`.
 fn ending(b: u8) -> bool
-    ensures { result ≡ isEnding b }
+    ensures { result ≡ is_ending b }
 {
     either(b == 10, b == 35)
 }
 
 fn wordly(b: u8) -> bool
-    ensures { result ≡ isWordly b }
+    ensures { result ≡ is_wordly b }
 {
     !either(white(b), ending(b))
 }
 
 fn in_line(b: u8) -> bool
-    ensures { result ≡ isInLine b }
+    ensures { result ≡ is_in_line b }
 {
     !(b == 10)
 }
 
 // Past the white space at a place.
 fn skip(text: &[u8], at: usize) -> usize
-    ensures { result ≡ at + run isWhite (drop at text.now) }
+    ensures { result ≡ at + run is_white (drop at text.now) }
 {
     let mut i = at;
     while white(byte_at(text, i)) {
@@ -61,7 +61,7 @@ fn skip(text: &[u8], at: usize) -> usize
 
 // Past the bytes of a word at a place.
 fn word_end(text: &[u8], at: usize) -> usize
-    ensures { result ≡ at + run isWordly (drop at text.now) }
+    ensures { result ≡ at + run is_wordly (drop at text.now) }
 {
     let mut i = at;
     while wordly(byte_at(text, i)) {
@@ -72,7 +72,7 @@ fn word_end(text: &[u8], at: usize) -> usize
 
 // The end of the line at a place.
 pub fn line_end(text: &[u8], at: usize) -> usize
-    ensures { result ≡ at + run isInLine (drop at text.now) }
+    ensures { result ≡ at + run is_in_line (drop at text.now) }
 {
     let mut i = at;
     while in_line(byte_at(text, i)) {
@@ -132,7 +132,7 @@ pub enum Number {
 
 // A number with one digit more.
 fn longer(v: u32, b: u8, most: u32) -> Number
-    ensures { result ≡ within most (isDigit b) (10 * v + (b - 48)) }
+    ensures { result ≡ within most (is_digit b) (10 * v + (b - 48)) }
 {
     if b < 48 {
         return Number::Not;

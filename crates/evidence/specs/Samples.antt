@@ -134,15 +134,15 @@ nodes8 =
     ∷ (4 ∷ 1 ∷ nothing ∷ nothing ∷ 7 ∷ 7 ∷ 7 ∷ 7 ∷ []) ∷ []
 
 -- of a log: kind, tick, job, segment
-abbrev pub log-short : List (List ℕ)
-log-short = (0 ∷ 0 ∷ 0 ∷ 0 ∷ []) ∷ (1 ∷ 2 ∷ 1 ∷ 0 ∷ []) ∷ (1 ∷ 4 ∷ nothing ∷ nothing ∷ []) ∷ []
+abbrev pub log_short : List (List ℕ)
+log_short = (0 ∷ 0 ∷ 0 ∷ 0 ∷ []) ∷ (1 ∷ 2 ∷ 1 ∷ 0 ∷ []) ∷ (1 ∷ 4 ∷ nothing ∷ nothing ∷ []) ∷ []
 
-abbrev pub log-long : List (List ℕ)
-log-long = (0 ∷ 0 ∷ 0 ∷ 0 ∷ []) ∷ (3 ∷ 3 ∷ 1 ∷ 0 ∷ []) ∷ (1 ∷ 4 ∷ 0 ∷ 0 ∷ []) ∷ (1 ∷ 5 ∷ nothing ∷ nothing ∷ []) ∷ []
+abbrev pub log_long : List (List ℕ)
+log_long = (0 ∷ 0 ∷ 0 ∷ 0 ∷ []) ∷ (3 ∷ 3 ∷ 1 ∷ 0 ∷ []) ∷ (1 ∷ 4 ∷ 0 ∷ 0 ∷ []) ∷ (1 ∷ 5 ∷ nothing ∷ nothing ∷ []) ∷ []
 
 -- the first with its tick 2 made 1
-abbrev pub log-wrong : List ℕ
-log-wrong = 0 ∷ 0 ∷ 0 ∷ 0 ∷ 1 ∷ 1 ∷ 1 ∷ 0 ∷ 1 ∷ 4 ∷ nothing ∷ nothing ∷ []
+abbrev pub log_wrong : List ℕ
+log_wrong = 0 ∷ 0 ∷ 0 ∷ 0 ∷ 1 ∷ 1 ∷ 1 ∷ 0 ∷ 1 ∷ 4 ∷ nothing ∷ nothing ∷ []
 
 -- room for 2,048 nodes
 abbrev pub room : ℕ
@@ -161,7 +161,7 @@ samples =
     ∷ sample 8 table8 (tree room) (grown nodes8 1)
     ∷ sample 9 (table4 10 4) (tree 48) (grown nodes4 2)
     ∷ sample 9 (table4 10 4) (tree 47) (refused 7)
-    ∷ sample 10 (table4 10 4) (replay (2 ∷ 1 ∷ [])) (logged log-short)
-    ∷ sample 10 (table4 10 4) (replay (4 ∷ 1 ∷ [])) (logged log-long)
-    ∷ sample 11 (table4 10 4) (judge log-wrong) (refused 8)
+    ∷ sample 10 (table4 10 4) (replay (2 ∷ 1 ∷ [])) (logged log_short)
+    ∷ sample 10 (table4 10 4) (replay (4 ∷ 1 ∷ [])) (logged log_long)
+    ∷ sample 11 (table4 10 4) (judge log_wrong) (refused 8)
     ∷ []

@@ -1,18 +1,18 @@
 -- Each promise leaves one answer: for every public function, two results that keep its promise for the same call are equal. Most promises are equations
--- (`equation-once`); the others follow by name.
+-- (`equation_once`); the others follow by name.
 use Rattle.std.specs.Prelude.{ℕ, ◌≤◌, ◌<◌, ◌≡◌, List, length}
 use Rattle.std.proofs.Common.{sym, ap, ◌∙◌}
 use Rattle.std.specs.Borrow.{Bor}
 use Rattle.table.specs.Part.{Lies}
 use Rattle.table.specs.declared.Table.{Table}
-use Rattle.table.proofs.Parts.{lies-once}
+use Rattle.table.proofs.Parts.{lies_once}
 use Rattle.kernel.specs.Rules.{JobSet}
 use Rattle.kernel.specs.Code.{Logged}
 use Rattle.kernel.specs.Laws.Tests.{split}
 use Rattle.jobset.specs.Load.{Laid}
 use Rattle.orders.specs.Orders.{size}
-use Rattle.orders.specs.Laws.Walk.{theTree}
-use Rattle.walk.specs.Tree.{roomOf, Walked}
+use Rattle.orders.specs.Laws.Walk.{the_tree}
+use Rattle.walk.specs.Tree.{room_of, Walked}
 use Rattle.walk.specs.declared.Found.{Found}
 use Rattle.services.specs.Replay.{ReplayPromise}
 use Rattle.services.specs.Judge.{JudgePromise}
@@ -20,61 +20,61 @@ use Rattle.services.specs.Tree.{TreePromise}
 use Rattle.services.specs.declared.Replayed.{Replayed}
 use Rattle.services.specs.declared.Judged.{Judged}
 use Rattle.services.specs.declared.Drawn.{Drawn}
-use Rattle.services.proofs.Once.{same, replay-once, judge-once, tree-once}
+use Rattle.services.proofs.Once.{same, replay_once, judge_once, tree_once}
 use Rattle.vlodenka.specs.Answers.{Replays, Judges, Draws, Places}
 
 -- Table::new, Table::read, Table::extent; jobs::*, keys::ready_key; lines::listing
-pub equation-once : {A : Type 0} {r s x : A} → r ≡ x → s ≡ x → r ≡ s
-equation-once p q = p ∙ sym q
+pub equation_once : {A : Type 0} {r s x : A} → r ≡ x → s ≡ x → r ≡ s
+equation_once p q = p ∙ sym q
 
 -- Table::part: the same place and the same bytes
-pub table-part : (bytes r s : Bor (List ℕ)) (start : ℕ) (part : List ℕ) → Lies bytes r start part → Lies bytes s start part → (r.ref_ptr ≡ s.ref_ptr) × (r.now ≡ s.now)
-table-part = lies-once
+pub table_part : (bytes r s : Bor (List ℕ)) (start : ℕ) (part : List ℕ) → Lies bytes r start part → Lies bytes s start part → (r.ref_ptr ≡ s.ref_ptr) × (r.now ≡ s.now)
+table_part = lies_once
 
 -- kernel::run
-pub kernel-run : (w times before after more : List ℕ) (r s : ℕ) → Logged w times before after r → Logged w times before more s → (r ≡ s) × (after ≡ more)
-kernel-run w times before after more r s A B = (equation-once A.switches B.switches, equation-once A.words B.words)
+pub kernel_run : (w times before after more : List ℕ) (r s : ℕ) → Logged w times before after r → Logged w times before more s → (r ≡ s) × (after ≡ more)
+kernel_run w times before after more r s A B = (equation_once A.switches B.switches, equation_once A.words B.words)
 
 -- jobset::load
-pub jobset-load : (t : Table) (r s : List ℕ) → Laid t r → Laid t s → r ≡ s
-jobset-load t r s A B = equation-once A.words B.words
+pub jobset_load : (t : Table) (r s : List ℕ) → Laid t r → Laid t s → r ≡ s
+jobset_load t r s A B = equation_once A.words B.words
 
 -- walk::tree
-pub walk-tree : (J : JobSet) (before after more : List ℕ) (r s : Found) → Walked J before after r → Walked J before more s → (r ≡ s) × (after ≡ more)
-walk-tree J before after more r s A B = split (roomOf (length before)) (size (theTree J))
-    (λ (h : roomOf (length before) < size (theTree J)). same (A.large h) (B.large h))
-    (λ (h : size (theTree J) ≤ roomOf (length before)). same (A.whole h) (B.whole h))
+pub walk_tree : (J : JobSet) (before after more : List ℕ) (r s : Found) → Walked J before after r → Walked J before more s → (r ≡ s) × (after ≡ more)
+walk_tree J before after more r s A B = split (room_of (length before)) (size (the_tree J))
+    (λ (h : room_of (length before) < size (the_tree J)). same (A.large h) (B.large h))
+    (λ (h : size (the_tree J) ≤ room_of (length before)). same (A.whole h) (B.whole h))
 
 -- services::replay, judge, tree
-pub services-replay : (bytes times before after more : List ℕ) (r s : Replayed) → ReplayPromise bytes times before after r → ReplayPromise bytes times before more s
+pub services_replay : (bytes times before after more : List ℕ) (r s : Replayed) → ReplayPromise bytes times before after r → ReplayPromise bytes times before more s
     → (r ≡ s) × (after ≡ more)
-services-replay = replay-once
+services_replay = replay_once
 
-pub services-judge : (bytes log before after more : List ℕ) (r s : Judged) → JudgePromise bytes log before after r → JudgePromise bytes log before more s
+pub services_judge : (bytes log before after more : List ℕ) (r s : Judged) → JudgePromise bytes log before after r → JudgePromise bytes log before more s
     → (r ≡ s) × (after ≡ more)
-services-judge = judge-once
+services_judge = judge_once
 
-pub services-tree : (bytes before after more : List ℕ) (r s : Drawn) → TreePromise bytes before after r → TreePromise bytes before more s → (r ≡ s) × (after ≡ more)
-services-tree = tree-once
+pub services_tree : (bytes before after more : List ℕ) (r s : Drawn) → TreePromise bytes before after r → TreePromise bytes before more s → (r ≡ s) × (after ≡ more)
+services_tree = tree_once
 
 -- ---- the functions for C
 
-pub c-replay : (bytes times before after more : List ℕ) (m n r s : ℕ) → Replays bytes times before after m r → Replays bytes times before more n s
+pub c_replay : (bytes times before after more : List ℕ) (m n r s : ℕ) → Replays bytes times before after m r → Replays bytes times before more n s
     → (r ≡ s) × (m ≡ n) × (after ≡ more)
-c-replay bytes times before after more m n r s A B =
-    let (e, w) = replay-once bytes times before after more _ _ A B in
+c_replay bytes times before after more m n r s A B =
+    let (e, w) = replay_once bytes times before after more _ _ A B in
     (ap (λ (x : Replayed). x.refusal) e, ap (λ (x : Replayed). x.switches) e, w)
 
-pub c-judge : (bytes log before after more : List ℕ) (r s : ℕ) → Judges bytes log before after r → Judges bytes log before more s → (r ≡ s) × (after ≡ more)
-c-judge bytes log before after more r s (a, A) (b, B) =
-    let (e, w) = judge-once bytes log before after more _ _ A B in
+pub c_judge : (bytes log before after more : List ℕ) (r s : ℕ) → Judges bytes log before after r → Judges bytes log before more s → (r ≡ s) × (after ≡ more)
+c_judge bytes log before after more r s (a, A) (b, B) =
+    let (e, w) = judge_once bytes log before after more _ _ A B in
     (ap (λ (x : Judged). x.refusal) e, w)
 
-pub c-tree : (bytes before after more : List ℕ) (m n o p r s : ℕ) → Draws bytes before after m o r → Draws bytes before more n p s
+pub c_tree : (bytes before after more : List ℕ) (m n o p r s : ℕ) → Draws bytes before after m o r → Draws bytes before more n p s
     → (r ≡ s) × (m ≡ n) × (o ≡ p) × (after ≡ more)
-c-tree bytes before after more m n o p r s A B =
-    let (e, w) = tree-once bytes before after more _ _ A B in
+c_tree bytes before after more m n o p r s A B =
+    let (e, w) = tree_once bytes before after more _ _ A B in
     (ap (λ (x : Drawn). x.refusal) e, ap (λ (x : Drawn). x.nodes) e, ap (λ (x : Drawn). x.orders) e, w)
 
-pub c-part : (bytes : List ℕ) (job a b m n : ℕ) → Places bytes job a m → Places bytes job b n → (a ≡ b) × (m ≡ n)
-c-part bytes job a b m n A B = (equation-once A.0 B.0, equation-once A.1 B.1)
+pub c_part : (bytes : List ℕ) (job a b m n : ℕ) → Places bytes job a m → Places bytes job b n → (a ≡ b) × (m ≡ n)
+c_part bytes job a b m n A B = (equation_once A.0 B.0, equation_once A.1 B.1)

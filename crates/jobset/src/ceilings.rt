@@ -1,7 +1,7 @@
 // The ceilings of the locks, and the priority that a segment has while it is dispatched.
 ghost use Rattle.std.specs.Prelude.{◌≡◌, ◌+◌, max, get_or};
 ghost use Rattle.kernel.specs.Jobs.{holds, ceiling};
-ghost use Rattle.jobset.specs.Load.{userBaseIn, Ceilings, ceilingIfHeld, highest};
+ghost use Rattle.jobset.specs.Load.{user_base_in, Ceilings, ceiling_if_held, highest};
 
 use kernel::jobs::word_at;
 use table::Table;
@@ -51,7 +51,7 @@ fn holds(held: u16, lock: usize) -> bool
 
 // The base of a job if a segment of it holds the lock.
 fn user_base(held: &[u16], first: usize, count: u8, base: u8, lock: usize) -> u8
-    ensures { result ≡ userBaseIn held.now first count base lock }
+    ensures { result ≡ user_base_in held.now first count base lock }
 {
     let mut k: u8 = 0;
     while k < count {
@@ -102,7 +102,7 @@ pub fn ceilings(table: Table) -> [u32; LOCKS]
 }
 
 fn ceiling_if_held(ceilings: &[u32; LOCKS], held: u16, lock: usize) -> u32
-    ensures { result ≡ ceilingIfHeld ceilings.now held lock }
+    ensures { result ≡ ceiling_if_held ceilings.now held lock }
 {
     if holds(held, lock) {
         return word_at(ceilings, lock);

@@ -3,7 +3,7 @@ ghost use Rattle.std.specs.Prelude.{◌≡◌, [], ◌∷◌, ◌+◌, ◌*◌, 
 ghost use Rattle.std.proofs.lemmas.List.Edits.{sets};
 ghost use Rattle.table.specs.Sound.{Sound};
 ghost use Rattle.kernel.specs.Jobs.{count_of};
-ghost use Rattle.jobset.specs.Load.{Ceilings, heading, withSegments, Laid};
+ghost use Rattle.jobset.specs.Load.{Ceilings, heading, with_segments, Laid};
 
 mod ceilings;
 
@@ -42,7 +42,7 @@ fn put_segment(words: &mut [u32; 322], number: usize, shortest: u32, longest: u3
 
 fn put_segments(words: &mut [u32; 322], table: Table, ceilings: &[u32; 16], i: usize)
     requires { Sound table × (i < table.jobs) × Ceilings table ceilings.now }
-    ensures { words.new ≡ withSegments table i (count_of table i) words.old }
+    ensures { words.new ≡ with_segments table i (count_of table i) words.old }
 {
     let first = table.first[i];
     let count = table.count[i];

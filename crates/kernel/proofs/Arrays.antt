@@ -11,13 +11,13 @@ use Rattle.kernel.specs.Laws.Tests.{split}
 pub set_past : (n : ℕ) (l : List ℕ) (i v : ℕ) → length l ≡ n → n ≤ i → l ≡ set l i v
 set_past n l i v e h = sym (set_out l i v (omega arith))
 
-pub store-past : (l : List ℕ) (i v : ℕ) → length l ≤ i → l ≡ set l i v
-store-past l i v h = sym (set_out l i v h)
+pub store_past : (l : List ℕ) (i v : ℕ) → length l ≤ i → l ≡ set l i v
+store_past l i v h = sym (set_out l i v h)
 
 -- four stores in a row
-pub four-stores : (a b c d e : List ℕ) (i x y z w : ℕ) → b ≡ set a i x → c ≡ set b (i + 1) y → d ≡ set c (i + 2) z → e ≡ set d (i + 3) w
+pub four_stores : (a b c d e : List ℕ) (i x y z w : ℕ) → b ≡ set a i x → c ≡ set b (i + 1) y → d ≡ set c (i + 2) z → e ≡ set d (i + 3) w
     → e ≡ sets a i (x ∷ y ∷ z ∷ w ∷ [])
-four-stores a b c d e i x y z w p q r s =
+four_stores a b c d e i x y z w p q r s =
     let e1 : i + 1 ≡ suc i = omega arith in
     let e2 : i + 2 ≡ suc (suc i) = omega arith in
     let e3 : i + 3 ≡ suc (suc (suc i)) = omega arith in

@@ -6,32 +6,32 @@ use mathlib.Core.Bool.{true}
 use mathlib.Core.List.{List}
 use lib.Dec.{ltb}
 use borrow.Author.Tests.{ltb-true}
-use Rattle.kernel.specs.Words.{setOf}
-use Rattle.kernel.specs.Code.{releaseStep, ended, releases, releasedAfter, Releasing}
+use Rattle.kernel.specs.Words.{set_of}
+use Rattle.kernel.specs.Code.{release_step, ended, releases, released_after, Releasing}
 use Rattle.kernel.specs.Laws.Tests.{both_true, below}
 use Rattle.kernel.specs.declared.state.State.{State}
 
-pub none-released : (w : List ℕ) (tick : ℕ) (s : State) → Releasing w tick s s
-unfolding releasedAfter
-none-released w tick s = record { steps = 0; after = refl; all = λ i h. absurd (omega arith) }
+pub none_released : (w : List ℕ) (tick : ℕ) (s : State) → Releasing w tick s s
+unfolding released_after
+none_released w tick s = record { steps = 0; after = refl; all = λ i h. absurd (omega arith) }
 
-pub one-released : (w : List ℕ) (tick : ℕ) (s r : State) → Releasing w tick s r → releases (setOf w) tick r ≡ true → Releasing w tick s (releaseStep w r)
-unfolding releasedAfter
-one-released w tick s r R h = record {
+pub one_released : (w : List ℕ) (tick : ℕ) (s r : State) → Releasing w tick s r → releases (set_of w) tick r ≡ true → Releasing w tick s (release_step w r)
+unfolding released_after
+one_released w tick s r R h = record {
   steps = suc R.steps;
-  after = ap (releaseStep w) R.after;
-  all = below (λ i. releases (setOf w) tick (releasedAfter w i s) ≡ true) R.steps R.all (ap (releases (setOf w) tick) (sym R.after) ∙ h);
+  after = ap (release_step w) R.after;
+  all = below (λ i. releases (set_of w) tick (released_after w i s) ≡ true) R.steps R.all (ap (releases (set_of w) tick) (sym R.after) ∙ h);
 }
 
 -- a job that is released is one of the set's
-pub releases-job : (w : List ℕ) (tick : ℕ) (s : State) → releases (setOf w) tick s ≡ true → s.released < (setOf w).jobs
-releases-job w tick s h = ltb-true s.released (setOf w).jobs (both_true (ltb s.released (setOf w).jobs) _ h).0
+pub releases_job : (w : List ℕ) (tick : ℕ) (s : State) → releases (set_of w) tick s ≡ true → s.released < (set_of w).jobs
+releases_job w tick s h = ltb-true s.released (set_of w).jobs (both_true (ltb s.released (set_of w).jobs) _ h).0
 
 -- a segment that ends is of one of the set's jobs
-pub ended-job : (w : List ℕ) (s : State) → ended (setOf w) s ≡ true → s.running < (setOf w).jobs
-ended-job w s h = ltb-true s.running (setOf w).jobs (both_true (ltb s.running (setOf w).jobs) _ h).0
+pub ended_job : (w : List ℕ) (s : State) → ended (set_of w) s ≡ true → s.running < (set_of w).jobs
+ended_job w s h = ltb-true s.running (set_of w).jobs (both_true (ltb s.running (set_of w).jobs) _ h).0
 
 -- fewer are left then
-pub step_less : (w : List ℕ) (s : State) → s.released < (setOf w).jobs → (setOf w).jobs - (releaseStep w s).released < (setOf w).jobs - s.released
-unfolding releaseStep
+pub step_less : (w : List ℕ) (s : State) → s.released < (set_of w).jobs → (set_of w).jobs - (release_step w s).released < (set_of w).jobs - s.released
+unfolding release_step
 step_less w s h = omega arith

@@ -3,10 +3,10 @@ use Rattle.std.specs.Prelude.{ℕ, zero, suc, ◌+◌, ◌-◌, ◌*◌, ◌≤�
 use Rattle.std.proofs.lemmas.List.Edits.{sets}
 use Rattle.kernel.specs.Rules as rules
 use Rattle.kernel.specs.Rules.{JobSet, Within, run_of}
-use Rattle.kernel.specs.Log.{kindNumber, nothing, logWords, timeIn}
-use Rattle.kernel.specs.Words.{setOf, first_of, Loaded}
+use Rattle.kernel.specs.Log.{kind_number, nothing, log_words, time_in}
+use Rattle.kernel.specs.Words.{set_of, first_of, Loaded}
 use Rattle.kernel.specs.Laws.Tests.{iflt}
-use Rattle.kernel.specs.Laws.Key.{keyOf}
+use Rattle.kernel.specs.Laws.Key.{key_of}
 use Rattle.kernel.specs.declared.state.Kind.{Kind}
 use Rattle.kernel.specs.declared.state.Kind.TheVariants.{First as KindFirst, End, Step, Cut}
 use Rattle.kernel.specs.declared.state.Due.{Due}
@@ -21,48 +21,48 @@ kind_of End = rules.END
 kind_of Step = rules.STEP
 kind_of Cut = rules.CUT
 
-abbrev pub dueOf : Due → rules.Due
-dueOf DueFirst = rules.first
-dueOf Cutting = rules.cutting
-dueOf (Leaving kind tick) = rules.leaving (kind_of kind) tick
+abbrev pub due_of : Due → rules.Due
+due_of DueFirst = rules.first
+due_of Cutting = rules.cutting
+due_of (Leaving kind tick) = rules.leaving (kind_of kind) tick
 
 -- ---- weights
 
 -- of job i at its segment k, begun or not
-abbrev pub weightAt : JobSet → (i k : ℕ) → Bool → ℕ
-weightAt J i k begun = iflt k (J.segments i) (cond begun (2 * J.priority i k + 2) (2 * J.base i + 1)) 0
+abbrev pub weight_at : JobSet → (i k : ℕ) → Bool → ℕ
+weight_at J i k begun = iflt k (J.segments i) (cond begun (2 * J.priority i k + 2) (2 * J.base i + 1)) 0
 
 -- the time of segment k of job i, by the words of the job set
-abbrev pub timeAt : (w times : List ℕ) → (i k : ℕ) → ℕ
-timeAt w times i k = get_or times (first_of w i + k) 0
+abbrev pub time_at : (w times : List ℕ) → (i k : ℕ) → ℕ
+time_at w times i k = get_or times (first_of w i + k) 0
 
 -- by END where the job has no segment k
-abbrev pub leaveKindAt : JobSet → (i k : ℕ) → Kind
-leaveKindAt J i k = cond (ltb k (J.segments i)) Step End
+abbrev pub leave_kind_at : JobSet → (i k : ℕ) → Kind
+leave_kind_at J i k = cond (ltb k (J.segments i)) Step End
 
 -- ---- the steps of a tick; w are the words of the job set
 
 -- 1. the running segment ends
-unfoldable pub endStep : (w times : List ℕ) → (tick : ℕ) → State → State
-endStep w times tick s =
+unfoldable pub end_step : (w times : List ℕ) → (tick : ℕ) → State → State
+end_step w times tick s =
     let j = s.running in
     let k = get_or s.segment j 0 + 1 in
     record {
       segment = set s.segment j k;
-      rest = set s.rest j (timeAt w times j k);
-      key = set s.key j (keyOf (weightAt (setOf w) j k true) j);
+      rest = set s.rest j (time_at w times j k);
+      key = set s.key j (key_of (weight_at (set_of w) j k true) j);
       released = s.released;
-      running = (setOf w).jobs;
+      running = (set_of w).jobs;
       left = 0;
-      due = Leaving (leaveKindAt (setOf w) j k) tick;
+      due = Leaving (leave_kind_at (set_of w) j k) tick;
     }
 
 -- 2. the next job in table order is released
-unfoldable pub releaseStep : List ℕ → State → State
-releaseStep w s = record {
+unfoldable pub release_step : List ℕ → State → State
+release_step w s = record {
   segment = s.segment;
   rest = s.rest;
-  key = set s.key s.released (keyOf (weightAt (setOf w) s.released 0 false) s.released);
+  key = set s.key s.released (key_of (weight_at (set_of w) s.released 0 false) s.released);
   released = s.released + 1;
   running = s.running;
   left = s.left;
@@ -70,13 +70,13 @@ releaseStep w s = record {
 }
 
 -- 3. another job than the running one is dispatched: what is left of the running one is kept
-unfoldable pub dispatchStep : List ℕ → ℕ → State → State
-dispatchStep w d s =
+unfoldable pub dispatch_step : List ℕ → ℕ → State → State
+dispatch_step w d s =
     let rest = set s.rest s.running s.left in
     record {
       segment = s.segment;
       rest = rest;
-      key = set s.key d (keyOf (weightAt (setOf w) d (get_or s.segment d 0) true) d);
+      key = set s.key d (key_of (weight_at (set_of w) d (get_or s.segment d 0) true) d);
       released = s.released;
       running = d;
       left = get_or rest d 0;
@@ -84,8 +84,8 @@ dispatchStep w d s =
     }
 
 -- 4. it runs for one tick
-unfoldable pub tickStep : State → State
-tickStep s = record {
+unfoldable pub tick_step : State → State
+tick_step s = record {
   segment = s.segment;
   rest = s.rest;
   key = s.key;
@@ -106,24 +106,24 @@ abbrev pub releases : JobSet → (tick : ℕ) → State → Bool
 releases J tick s = ltb s.released J.jobs && leb (J.release s.released) tick
 
 -- so many release steps
-unfoldable pub releasedAfter : List ℕ → (steps : ℕ) → State → State
-releasedAfter w zero s = s
-releasedAfter w (suc n) s = releaseStep w (releasedAfter w n s)
+unfoldable pub released_after : List ℕ → (steps : ℕ) → State → State
+released_after w zero s = s
+released_after w (suc n) s = release_step w (released_after w n s)
 
 -- some of the jobs of the tick are released
 pub record Releasing (w : List ℕ) (tick : ℕ) (s r : State) : Type 0 where
   pub steps : ℕ
-  pub after : r ≡ releasedAfter w steps s
-  pub all : (i : ℕ) → i < steps → releases (setOf w) tick (releasedAfter w i s) ≡ true
+  pub after : r ≡ released_after w steps s
+  pub all : (i : ℕ) → i < steps → releases (set_of w) tick (released_after w i s) ≡ true
 
 -- all of them are
 pub record Released (w : List ℕ) (tick : ℕ) (s r : State) : Type 0 where
   pub some : Releasing w tick s r
-  pub done : releases (setOf w) tick r ≡ false
+  pub done : releases (set_of w) tick r ≡ false
 
 -- the state once the segment that has had its time has ended
 abbrev pub settled : (w times : List ℕ) → (tick : ℕ) → State → State
-settled w times tick s = cond (ended (setOf w) s) (endStep w times tick s) s
+settled w times tick s = cond (ended (set_of w) s) (end_step w times tick s) s
 
 abbrev pub Settled : (w times : List ℕ) → (tick : ℕ) → (s r : State) → Type 0
 Settled w times tick s r = Released w tick (settled w times tick s) r
@@ -137,42 +137,42 @@ pub record NoneFrom (J : JobSet) (m : ℕ) (r : Bool) : Type 0 where
 pub record Fresh (w times : List ℕ) (s : State) : Type 0 where
   pub segment : (i : ℕ) → get_or s.segment i 0 ≡ 0
   pub segments : length s.segment ≡ 32
-  pub rest : (i : ℕ) → i < 32 → get_or s.rest i 0 ≡ timeAt w times i 0
+  pub rest : (i : ℕ) → i < 32 → get_or s.rest i 0 ≡ time_at w times i 0
   pub rests : length s.rest ≡ 32
   pub key : (i : ℕ) → get_or s.key i 0 ≡ 0
   pub keys : length s.key ≡ 32
   pub released : s.released ≡ 0
-  pub running : s.running ≡ (setOf w).jobs
+  pub running : s.running ≡ (set_of w).jobs
   pub due : s.due ≡ DueFirst
 
 -- ---- the words of the switches
 
-abbrev pub fourWords : Kind → (tick job segment : ℕ) → List ℕ
-fourWords kind tick job segment = kindNumber (kind_of kind) ∷ tick ∷ job ∷ segment ∷ []
+abbrev pub four_words : Kind → (tick job segment : ℕ) → List ℕ
+four_words kind tick job segment = kind_number (kind_of kind) ∷ tick ∷ job ∷ segment ∷ []
 
-abbrev pub lastWords : Due → List ℕ
-lastWords DueFirst = []
-lastWords Cutting = []
-lastWords (Leaving kind tick) = fourWords kind tick nothing nothing
+abbrev pub last_words : Due → List ℕ
+last_words DueFirst = []
+last_words Cutting = []
+last_words (Leaving kind tick) = four_words kind tick nothing nothing
 
-abbrev pub lastCount : Due → ℕ
-lastCount DueFirst = 0
-lastCount Cutting = 0
-lastCount (Leaving kind tick) = 1
+abbrev pub last_count : Due → ℕ
+last_count DueFirst = 0
+last_count Cutting = 0
+last_count (Leaving kind tick) = 1
 
-abbrev pub noteWords : Due → (tick d k : ℕ) → List ℕ
-noteWords DueFirst tick d k = fourWords KindFirst tick d k
-noteWords Cutting tick d k = fourWords Cut tick d k
-noteWords (Leaving kind left) tick d k = fourWords kind left d k
+abbrev pub note_words : Due → (tick d k : ℕ) → List ℕ
+note_words DueFirst tick d k = four_words KindFirst tick d k
+note_words Cutting tick d k = four_words Cut tick d k
+note_words (Leaving kind left) tick d k = four_words kind left d k
 
 -- ---- a run
 
 -- what a run is given: an accepted table's words, and one time per segment within its bounds
 pub record Runs (w times : List ℕ) : Type 0 where
   pub loaded : Loaded w
-  pub within : Within (setOf w) (timeIn (setOf w) times)
+  pub within : Within (set_of w) (time_in (set_of w) times)
 
 -- the log of the run stands at the start of the lent words, as far as there is room, and its switches are counted
 pub record Logged (w times before after : List ℕ) (count : ℕ) : Type 0 where
-  pub words : after ≡ sets before 0 (logWords (setOf w) (run_of (setOf w) (timeIn (setOf w) times)))
-  pub switches : count ≡ length (run_of (setOf w) (timeIn (setOf w) times))
+  pub words : after ≡ sets before 0 (log_words (set_of w) (run_of (set_of w) (time_in (set_of w) times)))
+  pub switches : count ≡ length (run_of (set_of w) (time_in (set_of w) times))

@@ -33,55 +33,55 @@ module _ (t : Table) where
   number_of i k = get_or t.first i 0 + k
 
   -- the locks that segment k of job i holds
-  abbrev pub heldBy : (i k : ℕ) → ℕ
-  heldBy i k = get_or t.held (number_of i k) 0
+  abbrev pub held_by : (i k : ℕ) → ℕ
+  held_by i k = get_or t.held (number_of i k) 0
 
   -- the base of job i if a segment of it holds the lock
-  unfoldable pub userBase : (lock i : ℕ) → ℕ
-  userBase lock i = largest (λ k. cond (holds (heldBy i k) lock) (base_of i) 0) (count_of i)
+  unfoldable pub user_base : (lock i : ℕ) → ℕ
+  user_base lock i = largest (λ k. cond (holds (held_by i k) lock) (base_of i) 0) (count_of i)
 
   -- A lock's ceiling is the largest base priority of the jobs with a segment that holds it, plus one.
   unfoldable pub ceiling : ℕ → ℕ
-  ceiling lock = largest (userBase lock) t.jobs + 1
+  ceiling lock = largest (user_base lock) t.jobs + 1
 
   -- the largest ceiling of these locks
   unfoldable pub ceilings : ℕ → ℕ
   ceilings held = largest (λ lock. cond (holds held lock) (ceiling lock) 0) locks
 
   -- Once dispatched, a job's priority is the larger of its base and the ceilings of the locks that its present segment holds.
-  unfoldable pub dispatchedPriority : (i k : ℕ) → ℕ
-  dispatchedPriority i k = max (base_of i) (ceilings (heldBy i k))
+  unfoldable pub dispatched_priority : (i k : ℕ) → ℕ
+  dispatched_priority i k = max (base_of i) (ceilings (held_by i k))
 
 -- what f says of a job, and 0 where there is no such job
-abbrev pub ifJob : (jobs : ℕ) → (ℕ → ℕ) → ℕ → ℕ
-ifJob jobs f i = cond (ltb i jobs) (f i) 0
+abbrev pub if_job : (jobs : ℕ) → (ℕ → ℕ) → ℕ → ℕ
+if_job jobs f i = cond (ltb i jobs) (f i) 0
 
 -- what f says of a segment, and 0 where its job has no such segment
-abbrev pub ifSegment : (segments : ℕ → ℕ) → (ℕ → ℕ → ℕ) → ℕ → ℕ → ℕ
-ifSegment segments f i k = cond (ltb k (segments i)) (f i k) 0
+abbrev pub if_segment : (segments : ℕ → ℕ) → (ℕ → ℕ → ℕ) → ℕ → ℕ → ℕ
+if_segment segments f i k = cond (ltb k (segments i)) (f i k) 0
 
 -- the job set that has 0 wherever there is no such job or segment
 unfoldable pub clipped : JobSet → JobSet
 clipped J = record {
   frame = J.frame;
   jobs = J.jobs;
-  release = ifJob J.jobs J.release;
-  base = ifJob J.jobs J.base;
-  segments = ifJob J.jobs J.segments;
-  priority = ifSegment (ifJob J.jobs J.segments) J.priority;
-  shortest = ifSegment (ifJob J.jobs J.segments) J.shortest;
-  longest = ifSegment (ifJob J.jobs J.segments) J.longest;
+  release = if_job J.jobs J.release;
+  base = if_job J.jobs J.base;
+  segments = if_job J.jobs J.segments;
+  priority = if_segment (if_job J.jobs J.segments) J.priority;
+  shortest = if_segment (if_job J.jobs J.segments) J.shortest;
+  longest = if_segment (if_job J.jobs J.segments) J.longest;
 }
 
 -- the job set of a table
-unfoldable pub jobsOf : Table → JobSet
-jobsOf t = clipped (record {
+unfoldable pub jobs_of : Table → JobSet
+jobs_of t = clipped (record {
   frame = t.frame;
   jobs = t.jobs;
   release = λ i. get_or t.release i 0;
   base = base_of t;
   segments = count_of t;
-  priority = dispatchedPriority t;
+  priority = dispatched_priority t;
   shortest = λ i k. get_or t.shortest (number_of t i k) 0;
   longest = λ i k. get_or t.longest (number_of t i k) 0;
 })

@@ -4,11 +4,11 @@ use Rattle.kernel.specs.Rules.{JobSet, Kind, FIRST, END, STEP, CUT, Switch}
 use Rattle.kernel.specs.Jobs.{sum}
 
 -- the numbers of the kinds
-abbrev pub kindNumber : Kind → ℕ
-kindNumber FIRST = 0
-kindNumber END = 1
-kindNumber STEP = 2
-kindNumber CUT = 3
+abbrev pub kind_number : Kind → ℕ
+kind_number FIRST = 0
+kind_number END = 1
+kind_number STEP = 2
+kind_number CUT = 3
 
 -- where there is no job and no segment
 abbrev pub nothing : ℕ
@@ -19,17 +19,17 @@ abbrev pub named : JobSet → (job what : ℕ) → ℕ
 named J job what = cond (ltb job J.jobs) what nothing
 
 -- four words a switch: kind, tick, job, segment
-abbrev pub switchWords : JobSet → Switch → List ℕ
-switchWords J s = kindNumber s.kind ∷ s.tick ∷ named J s.job s.job ∷ named J s.job s.segment ∷ []
+abbrev pub switch_words : JobSet → Switch → List ℕ
+switch_words J s = kind_number s.kind ∷ s.tick ∷ named J s.job s.job ∷ named J s.job s.segment ∷ []
 
-unfoldable pub logWords : JobSet → List Switch → List ℕ
-logWords J [] = []
-logWords J (s ∷ ss) = switchWords J s ++ logWords J ss
+unfoldable pub log_words : JobSet → List Switch → List ℕ
+log_words J [] = []
+log_words J (s ∷ ss) = switch_words J s ++ log_words J ss
 
 -- the place of segment k of job i among the segments in table order
 abbrev pub place : JobSet → (i k : ℕ) → ℕ
 place J i k = sum J.segments i + k
 
 -- one time per segment in table order
-abbrev pub timeIn : JobSet → List ℕ → ℕ → ℕ → ℕ
-timeIn J times i k = get_or times (place J i k) 0
+abbrev pub time_in : JobSet → List ℕ → ℕ → ℕ → ℕ
+time_in J times i k = get_or times (place J i k) 0

@@ -39,12 +39,12 @@ module _ (J : JobSet) (p : Progress) where
   current i = cond (begun p i) (J.priority i (p.segment i)) (J.base i)
 
   -- i is begun and j is not
-  abbrev pub begunFirst : ℕ → ℕ → Bool
-  begunFirst i j = begun p i && not (begun p j)
+  abbrev pub begun_first : ℕ → ℕ → Bool
+  begun_first i j = begun p i && not (begun p j)
 
   -- the larger current priority goes first; among equals a begun job before one not begun, then the lower number
   abbrev pub beats : ℕ → ℕ → Bool
-  beats i j = ltb (current j) (current i) || (eqb (current i) (current j) && (begunFirst i j || (not (begunFirst j i) && ltb i j)))
+  beats i j = ltb (current j) (current i) || (eqb (current i) (current j) && (begun_first i j || (not (begun_first j i) && ltb i j)))
 
   -- of the ready jobs below k, the one that beats the others; none if none is ready
   unfoldable pub best : ℕ → ℕ → ℕ
@@ -54,9 +54,9 @@ module _ (J : JobSet) (p : Progress) where
       cond (ready tick k) (cond (eqb d J.jobs) k (cond (beats k d) k d)) d
 
   -- every job below k is finished
-  unfoldable pub allFinished : ℕ → Bool
-  allFinished zero = true
-  allFinished (suc k) = finished k && allFinished k
+  unfoldable pub all_finished : ℕ → Bool
+  all_finished zero = true
+  all_finished (suc k) = finished k && all_finished k
 
 -- ---- switches
 
@@ -91,12 +91,12 @@ unfoldable pub put {ℓ} : {X : Type ℓ} → (ℕ → X) → ℕ → X → ℕ 
 put f j v i = cond (eqb i j) v (f i)
 
 -- j moves to its next segment
-abbrev pub nextSegment : Progress → ℕ → Progress
-nextSegment p j = record { segment = put p.segment j (p.segment j + 1); had = put p.had j 0 }
+abbrev pub next_segment : Progress → ℕ → Progress
+next_segment p j = record { segment = put p.segment j (p.segment j + 1); had = put p.had j 0 }
 
 -- d has one tick more
-abbrev pub oneTick : Progress → ℕ → Progress
-oneTick p d = record { segment = p.segment; had = put p.had d (p.had d + 1) }
+abbrev pub one_tick : Progress → ℕ → Progress
+one_tick p d = record { segment = p.segment; had = put p.had d (p.had d + 1) }
 
 -- the switch that a dispatch of segment k of job d reports at a tick, where `was` ran before
 unfoldable pub reported : (tick was d k : ℕ) → Due → List Switch
@@ -110,30 +110,30 @@ module _ (J : JobSet) where
   dispatched tick r = best J r.progress tick J.jobs
 
   -- 4. The dispatched job runs for one tick. If none is ready, the tick passes.
-  unfoldable pub runTick : ℕ → Run → Run
-  runTick tick r =
+  unfoldable pub run_tick : ℕ → Run → Run
+  run_tick tick r =
       let d = dispatched tick r in
       cond (ltb d J.jobs)
-      (record { progress = oneTick r.progress d; running = d; due = cutting })
+      (record { progress = one_tick r.progress d; running = d; due = cutting })
       (record { progress = r.progress; running = J.jobs; due = r.due })
 
   -- the switch of a tick, if it has one
-  unfoldable pub switchAt : ℕ → Run → List Switch
-  switchAt tick r =
+  unfoldable pub switch_at : ℕ → Run → List Switch
+  switch_at tick r =
       let d = dispatched tick r in
       cond (ltb d J.jobs) (reported tick r.running d (r.progress.segment d) r.due) []
 
   -- the last switch is an END with neither job nor segment
-  unfoldable pub lastSwitch : Due → List Switch
-  lastSwitch first = []
-  lastSwitch cutting = []
-  lastSwitch (leaving kind at) = record { kind = kind; tick = at; job = J.jobs; segment = 0; start = at } ∷ []
+  unfoldable pub last_switch : Due → List Switch
+  last_switch first = []
+  last_switch cutting = []
+  last_switch (leaving kind at) = record { kind = kind; tick = at; job = J.jobs; segment = 0; start = at } ∷ []
 
-  abbrev pub leaveKind : Progress → ℕ → Kind
-  leaveKind p j = cond (eqb (p.segment j + 1) (J.segments j)) END STEP
+  abbrev pub leave_kind : Progress → ℕ → Kind
+  leave_kind p j = cond (eqb (p.segment j + 1) (J.segments j)) END STEP
 
   abbrev pub over : Run → Bool
-  over r = allFinished J r.progress J.jobs
+  over r = all_finished J r.progress J.jobs
 
   abbrev pub fresh : Run
   fresh = record { progress = record { segment = λ i. 0; had = λ i. 0 }; running = J.jobs; due = first }
@@ -141,17 +141,17 @@ module _ (J : JobSet) where
 -- ---- a run, where segment k of job i takes `time i k` ticks
 
 module _ (J : JobSet) (time : ℕ → ℕ → ℕ) where
-  abbrev pub hadItsTime : Run → Bool
-  hadItsTime r = ltb r.running J.jobs && eqb (r.progress.had r.running) (time r.running (r.progress.segment r.running))
+  abbrev pub had_its_time : Run → Bool
+  had_its_time r = ltb r.running J.jobs && eqb (r.progress.had r.running) (time r.running (r.progress.segment r.running))
 
   -- 1. If the running segment has had its time, it ends. The job is finished, or moves to its next segment.
-  unfoldable pub endSegment : ℕ → Run → Run
-  endSegment tick r =
-      cond (hadItsTime r)
+  unfoldable pub end_segment : ℕ → Run → Run
+  end_segment tick r =
+      cond (had_its_time r)
       (record {
-        progress = nextSegment r.progress r.running;
+        progress = next_segment r.progress r.running;
         running = J.jobs;
-        due = leaving (leaveKind J r.progress r.running) tick;
+        due = leaving (leave_kind J r.progress r.running) tick;
       })
       r
 
@@ -159,24 +159,24 @@ module _ (J : JobSet) (time : ℕ → ℕ → ℕ) where
   unfoldable pub switches : (n tick : ℕ) → Run → List Switch
   switches zero tick r = []
   switches (suc n) tick r =
-      let e = endSegment tick r in
-      let rest = switches n (suc tick) (runTick J tick e) in
-      cond (over J e) (lastSwitch J e.due) (switchAt J tick e ++ rest)
+      let e = end_segment tick r in
+      let rest = switches n (suc tick) (run_tick J tick e) in
+      cond (over J e) (last_switch J e.due) (switch_at J tick e ++ rest)
 
   -- the run ends within n ticks from a tick on
   unfoldable pub ends : (n tick : ℕ) → Run → Bool
   ends zero tick r = false
   ends (suc n) tick r =
-      let e = endSegment tick r in
-      let rest = ends n (suc tick) (runTick J tick e) in
+      let e = end_segment tick r in
+      let rest = ends n (suc tick) (run_tick J tick e) in
       cond (over J e) true rest
 
   -- the switches of the run in its frame, and whether it ends at the frame's last tick or before
   abbrev pub run_of : List Switch
   run_of = switches (suc J.frame) 0 (fresh J)
 
-  abbrev pub inFrame : Bool
-  inFrame = ends (suc J.frame) 0 (fresh J)
+  abbrev pub is_in_frame : Bool
+  is_in_frame = ends (suc J.frame) 0 (fresh J)
 
 -- ---- all runs
 
@@ -190,4 +190,4 @@ module _ (J : JobSet) where
   pub record SomeRunEndsLate : Type 0 where
     pub time : ℕ → ℕ → ℕ
     pub within : Within time
-    pub late : inFrame J time ≡ false
+    pub late : is_in_frame J time ≡ false

@@ -1,14 +1,14 @@
 // The key of a job: its weight and its number in one, so that the job to dispatch is the one with the largest key. A finished job has key 0.
 ghost use Rattle.std.specs.Prelude.{◌≡◌, ◌<◌};
-ghost use Rattle.kernel.specs.Words.{setOf, Loaded};
-ghost use Rattle.kernel.specs.Code.{weightAt};
-ghost use Rattle.kernel.specs.Laws.Key.{keyOf};
+ghost use Rattle.kernel.specs.Words.{set_of, Loaded};
+ghost use Rattle.kernel.specs.Code.{weight_at};
+ghost use Rattle.kernel.specs.Laws.Key.{key_of};
 
 use crate::jobs;
 
 fn key_of(weight: u32, i: usize) -> u16
     requires { (weight < 2000) × (i < 32) }
-    ensures { result ≡ keyOf weight i }
+    ensures { result ≡ key_of weight i }
 {
     if weight == 0 {
         return 0;
@@ -19,7 +19,7 @@ fn key_of(weight: u32, i: usize) -> u16
 // The key of job i at its segment k: begun, it has the priority of the segment, and before that its base.
 pub fn ready_key(set: &[u32; 322], i: usize, k: u32, begun: bool) -> u16
     requires { Loaded set.now }
-    ensures { result ≡ keyOf (weightAt (setOf set.now) i k begun) i }
+    ensures { result ≡ key_of (weight_at (set_of set.now) i k begun) i }
 {
     let base = jobs::base(set, i);
     let priority = jobs::priority(set, i, k);

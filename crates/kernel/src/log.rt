@@ -1,7 +1,7 @@
 // The log of a run, four words a switch.
 ghost use Rattle.std.specs.Prelude.{◌≡◌, ◌+◌, ◌*◌, ◌<◌, set};
 ghost use Rattle.std.proofs.lemmas.List.Edits.{sets};
-ghost use Rattle.kernel.specs.Code.{fourWords, lastWords, lastCount, noteWords};
+ghost use Rattle.kernel.specs.Code.{four_words, last_words, last_count, note_words};
 
 use crate::state::{Due, Kind};
 
@@ -16,7 +16,7 @@ fn store(log: &mut [u32], i: usize, v: u32)
 // One switch more.
 fn put(log: &mut [u32], count: usize, kind: Kind, tick: u32, job: u32, segment: u32) -> usize
     requires { count < 4096 }
-    ensures { (result ≡ count + 1) × (log.new ≡ sets log.old (4 * count) (fourWords kind tick job segment)) }
+    ensures { (result ≡ count + 1) × (log.new ≡ sets log.old (4 * count) (four_words kind tick job segment)) }
 {
     let i = 4 * count;
     store(log, i, kind.number());
@@ -29,7 +29,7 @@ fn put(log: &mut [u32], count: usize, kind: Kind, tick: u32, job: u32, segment: 
 // The last switch: an END with neither job nor segment.
 pub fn last(log: &mut [u32], count: usize, due: Due) -> usize
     requires { count < 4096 }
-    ensures { (result ≡ count + lastCount due) × (log.new ≡ sets log.old (4 * count) (lastWords due)) }
+    ensures { (result ≡ count + last_count due) × (log.new ≡ sets log.old (4 * count) (last_words due)) }
 {
     match due {
         Due::First => count,
@@ -41,7 +41,7 @@ pub fn last(log: &mut [u32], count: usize, due: Due) -> usize
 // The switch that the dispatch of segment k of job d reports at a tick, where another job ran before.
 pub fn note(log: &mut [u32], count: usize, due: Due, tick: u32, d: u32, k: u32) -> usize
     requires { count < 4096 }
-    ensures { (result ≡ count + 1) × (log.new ≡ sets log.old (4 * count) (noteWords due tick d k)) }
+    ensures { (result ≡ count + 1) × (log.new ≡ sets log.old (4 * count) (note_words due tick d k)) }
 {
     match due {
         Due::First => put(log, count, Kind::First, tick, d, k),

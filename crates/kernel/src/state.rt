@@ -1,9 +1,9 @@
 // Where a run stands, by value: each step of a tick takes the state and returns the next.
 ghost use Rattle.std.specs.Prelude.{◌≡◌, ◌&&◌, ◌≤◌, ◌<◌, get_or, set, ltb, leb, eqb};
 ghost use Rattle.kernel.specs.Jobs.{largest};
-ghost use Rattle.kernel.specs.Log.{kindNumber};
-ghost use Rattle.kernel.specs.Words.{setOf, Loaded};
-ghost use Rattle.kernel.specs.Code.{kind_of, leaveKindAt, NoneFrom, Fresh, endStep, releaseStep, dispatchStep, tickStep, Released};
+ghost use Rattle.kernel.specs.Log.{kind_number};
+ghost use Rattle.kernel.specs.Words.{set_of, Loaded};
+ghost use Rattle.kernel.specs.Code.{kind_of, leave_kind_at, NoneFrom, Fresh, end_step, release_step, dispatch_step, tick_step, Released};
 ghost use Rattle.kernel.specs.Laws.Key.{job_of};
 
 use crate::{jobs, keys};
@@ -74,7 +74,7 @@ fn kept(rest: [u32; 32], j: usize, left: u32) -> [u32; 32]
 
 // END where the job has no segment k, else STEP.
 fn leave_kind(set: &[u32; 322], i: usize, k: u32) -> Kind
-    ensures { result ≡ leaveKindAt (setOf set.now) i k }
+    ensures { result ≡ leave_kind_at (set_of set.now) i k }
 {
     if k < jobs::segments(set, i) {
         return Kind::Step;
@@ -84,7 +84,7 @@ fn leave_kind(set: &[u32; 322], i: usize, k: u32) -> Kind
 
 // No job from m on has a segment.
 pub fn none_from(set: &[u32; 322], m: usize) -> bool
-    ensures { NoneFrom (setOf set.now) m result }
+    ensures { NoneFrom (set_of set.now) m result }
 {
     let n = jobs::jobs(set);
     let mut i = m;
@@ -99,7 +99,7 @@ pub fn none_from(set: &[u32; 322], m: usize) -> bool
 
 impl Kind {
     pub fn number(self) -> u32
-        ensures { result ≡ kindNumber (kind_of self) }
+        ensures { result ≡ kind_number (kind_of self) }
     {
         match self {
             Kind::First => 0,
@@ -134,7 +134,7 @@ impl State {
 
     // The running segment has had its time.
     pub fn ended(self, set: &[u32; 322]) -> bool
-        ensures { result ≡ (ltb self.running (setOf set.now).jobs && eqb self.left 0) }
+        ensures { result ≡ (ltb self.running (set_of set.now).jobs && eqb self.left 0) }
     {
         if self.running < jobs::jobs(set) {
             return self.left == 0;
@@ -145,7 +145,7 @@ impl State {
     // 1. The running segment ends. The job is finished, or moves to its next segment.
     pub fn end_segment(mut self, set: &[u32; 322], times: &[u32], tick: u32) -> State
         requires { Loaded set.now × (self.running < 32) × (get_or self.segment self.running 0 < 255) }
-        ensures { result ≡ endStep set.now times.now tick self }
+        ensures { result ≡ end_step set.now times.now tick self }
     {
         let j = self.running;
         let k = self.segment[j] + 1;
@@ -169,7 +169,7 @@ impl State {
 
     // A job is released at this tick.
     pub fn releases(self, set: &[u32; 322], tick: u32) -> bool
-        ensures { result ≡ (ltb self.released (setOf set.now).jobs && leb ((setOf set.now).release self.released) tick) }
+        ensures { result ≡ (ltb self.released (set_of set.now).jobs && leb ((set_of set.now).release self.released) tick) }
     {
         let m = self.released;
         if m < jobs::jobs(set) {
@@ -192,7 +192,7 @@ impl State {
 
     fn release_one(mut self, set: &[u32; 322]) -> State
         requires { Loaded set.now × (self.released < 32) }
-        ensures { result ≡ releaseStep set.now self }
+        ensures { result ≡ release_step set.now self }
     {
         let m = self.released;
         self.key[m] = keys::ready_key(set, m, 0, false);
@@ -202,7 +202,7 @@ impl State {
 
     // 3. The job that is dispatched; the number of jobs where none is ready.
     pub fn dispatched(self, set: &[u32; 322]) -> usize
-        ensures { result ≡ job_of (setOf set.now).jobs (largest (λ i. get_or self.key i 0) 32) }
+        ensures { result ≡ job_of (set_of set.now).jobs (largest (λ i. get_or self.key i 0) 32) }
     {
         let key = self.key;
         let best = top(&key);
@@ -223,7 +223,7 @@ impl State {
     // Another job than the running one is dispatched.
     pub fn dispatch(mut self, set: &[u32; 322], d: usize) -> State
         requires { Loaded set.now × (d < 32) }
-        ensures { result ≡ dispatchStep set.now d self }
+        ensures { result ≡ dispatch_step set.now d self }
     {
         let j = self.running;
         let k = self.present(d);
@@ -246,7 +246,7 @@ impl State {
     // 4. The dispatched job runs for one tick.
     pub fn run_tick(mut self) -> State
         requires { 1 ≤ self.left }
-        ensures { result ≡ tickStep self }
+        ensures { result ≡ tick_step self }
     {
         self.left = self.left - 1;
         self

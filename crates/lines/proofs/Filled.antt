@@ -6,7 +6,7 @@ use mathlib.Core.List.{List, [], ◌∷◌, ◌++◌, append-nil, append_assoc}
 use lib.ListN.{length, take, drop, set, replicate, length-set, length-drop, length-append}
 use lib.Seq.{take_all}
 use Rattle.lines.specs.Text.{digit, decimal}
-use Rattle.lines.specs.Digits.{decimal-small, decimal-more, decimal-some, decimal-short}
+use Rattle.lines.specs.Digits.{decimal_small, decimal_more, decimal_some, decimal_short}
 
 -- the digits of n from place k + 1 on are there, and those of `rest` are still to come
 pub record Filled (n : ℕ) (digits : List ℕ) (rest k : ℕ) : Type 0 where
@@ -17,31 +17,31 @@ pub record Filled (n : ℕ) (digits : List ℕ) (rest k : ℕ) : Type 0 where
 
 -- none is there at first
 pub filled_none : (n : ℕ) → n < 4294967296 → Filled n (replicate 10 0) n 9
-filled_none n h = record { size = refl; last = omega arith; room = decimal-short n h; written = sym (append-nil (decimal n)) }
+filled_none n h = record { size = refl; last = omega arith; room = decimal_short n h; written = sym (append-nil (decimal n)) }
 
 -- what is stored at a place is the first of what stands from there on
-drop-set : (l : List ℕ) (i v : ℕ) → i < length l → drop i (set l i v) ≡ v ∷ drop (suc i) l
-drop-set [] i v h = absurd (omega arith)
-drop-set (x ∷ l) zero v h = refl
-drop-set (x ∷ l) (suc i) v h = drop-set l i v (omega arith)
+drop_set : (l : List ℕ) (i v : ℕ) → i < length l → drop i (set l i v) ≡ v ∷ drop (suc i) l
+drop_set [] i v h = absurd (omega arith)
+drop_set (x ∷ l) zero v h = refl
+drop_set (x ∷ l) (suc i) v h = drop_set l i v (omega arith)
 
 module _ (n : ℕ) (digits : List ℕ) (rest k : ℕ) (F : Filled n digits rest k) where
   -- where there is more than one digit to come, there is a place before this one
-  pub room-left : 10 ≤ rest → 1 ≤ k
-  room-left h = omega (arith, F.room, ap length (decimal-more rest h), length-append (decimal (rest / 10)) (digit (rest % 10) ∷ []), decimal-some (rest / 10))
+  pub room_left : 10 ≤ rest → 1 ≤ k
+  room_left h = omega (arith, F.room, ap length (decimal_more rest h), length-append (decimal (rest / 10)) (digit (rest % 10) ∷ []), decimal_some (rest / 10))
 
   -- one digit more
   pub filled_more : 10 ≤ rest → Filled n (set digits k (digit (rest % 10))) (rest / 10) (k - 1)
   filled_more h =
       let d : ℕ = digit (rest % 10) in
-      let e : suc (k - 1) ≡ k = omega (arith, room-left h) in
+      let e : suc (k - 1) ≡ k = omega (arith, room_left h) in
       record {
         size = length-set digits k d ∙ F.size;
         last = omega (arith, F.last);
-        room = omega (arith, F.room, room-left h, ap length (decimal-more rest h), length-append (decimal (rest / 10)) (d ∷ []));
+        room = omega (arith, F.room, room_left h, ap length (decimal_more rest h), length-append (decimal (rest / 10)) (d ∷ []));
         written =
             F.written
-            ∙ rw (decimal-more rest h, append_assoc (decimal (rest / 10)) (d ∷ []) (drop (suc k) digits), e, drop-set digits k d (omega (arith, F.size, F.last)));
+            ∙ rw (decimal_more rest h, append_assoc (decimal (rest / 10)) (d ∷ []) (drop (suc k) digits), e, drop_set digits k d (omega (arith, F.size, F.last)));
       }
 
   -- a store keeps the ten bytes
@@ -49,8 +49,8 @@ module _ (n : ℕ) (digits : List ℕ) (rest k : ℕ) (F : Filled n digits rest 
   all_there v = omega (arith, length-set digits k v, F.size)
 
   -- with the first digit they are all there, from place k on
-  pub filled-all : rest < 10 → take (10 - k) (drop k (set digits k (digit rest))) ≡ decimal n
-  filled-all h =
+  pub filled_all : rest < 10 → take (10 - k) (drop k (set digits k (digit rest))) ≡ decimal n
+  filled_all h =
       take_all (10 - k) (drop k (set digits k (digit rest))) (omega (arith, length-drop k (set digits k (digit rest)), length-set digits k (digit rest), F.size))
-      ∙ drop-set digits k (digit rest) (omega (arith, F.size, F.last))
-      ∙ sym (F.written ∙ ap (λ (l : List ℕ). l ++ drop (suc k) digits) (decimal-small rest h))
+      ∙ drop_set digits k (digit rest) (omega (arith, F.size, F.last))
+      ∙ sym (F.written ∙ ap (λ (l : List ℕ). l ++ drop (suc k) digits) (decimal_small rest h))

@@ -7,20 +7,20 @@ use mathlib.Core.List.{List}
 use lib.ListN.{length}
 use lib.Seq.{sets}
 use borrow.Author.Tests.{eq-eqb, ne_eqb}
-use Rattle.lines.specs.Text.{row_at, nodeLine, nodeLines, headLine, refusedLine, listingOf}
-use Rattle.lines.specs.Lengths.{Bits32, head-short, nodes-short, listing-short}
-use Rattle.lines.specs.Put.{Put, put-none, put_then}
+use Rattle.lines.specs.Text.{row_at, node_line, node_lines, head_line, refused_line, listing_of}
+use Rattle.lines.specs.Lengths.{Bits32, head_short, nodes_short, listing_short}
+use Rattle.lines.specs.Put.{Put, put_none, put_then}
 
 -- no line yet
-pub no_lines : (words a : List ℕ) (i : ℕ) → Put a i (nodeLines 0 words) a i
-unfolding nodeLines
-no_lines words a i = put-none a i
+pub no_lines : (words a : List ℕ) (i : ℕ) → Put a i (node_lines 0 words) a i
+unfolding node_lines
+no_lines words a i = put_none a i
 
 -- one line more
-pub line-more : (words : List ℕ) (n : ℕ) {a b c : List ℕ} {i j k : ℕ} → Put a i (nodeLines n words) b j → Put b j (nodeLine n (row_at words n)) c k
-    → Put a i (nodeLines (n + 1) words) c k
-unfolding nodeLines
-line-more words n p q = rw (add-one n) (put_then p q)
+pub line_more : (words : List ℕ) (n : ℕ) {a b c : List ℕ} {i j k : ℕ} → Put a i (node_lines n words) b j → Put b j (node_line n (row_at words n)) c k
+    → Put a i (node_lines (n + 1) words) c k
+unfolding node_lines
+line_more words n p q = rw (add-one n) (put_then p q)
 
 -- the promise, of a text and a number of nodes
 abbrev pub Listed : (text : List ℕ) (nodes : ℕ) (before after : List ℕ) (r : ℕ) → Type 0
@@ -28,24 +28,24 @@ Listed text nodes before after r = ((r ≡ length text) × (after ≡ sets befor
 
 module _ {refusal nodes orders : ℕ} {words : List ℕ} (B : Bits32 refusal nodes orders words) where
   -- the places stay far from the largest number
-  pub place-small : {a b c : List ℕ} {j k : ℕ} (n : ℕ) → n ≤ nodes → Put a 0 (headLine nodes orders) b j → Put b j (nodeLines n words) c k → k + 99 < 2 ^ 64
-  place-small n h f g = omega (arith, f.place, g.place, B.in-nodes, head-short B, nodes-short B n h)
+  pub place_small : {a b c : List ℕ} {j k : ℕ} (n : ℕ) → n ≤ nodes → Put a 0 (head_line nodes orders) b j → Put b j (node_lines n words) c k → k + 99 < 2 ^ 64
+  place_small n h f g = omega (arith, f.place, g.place, B.in_nodes, head_short B, nodes_short B n h)
 
   -- kept by the whole text
-  listed : {a b : List ℕ} {r : ℕ} → Put a 0 (listingOf refusal nodes orders words) b r
-      → Listed (listingOf refusal nodes orders words) nodes a b r
-  listed f = ((omega arith, f.content), omega (arith, f.place, listing-short B))
+  listed : {a b : List ℕ} {r : ℕ} → Put a 0 (listing_of refusal nodes orders words) b r
+      → Listed (listing_of refusal nodes orders words) nodes a b r
+  listed f = ((omega arith, f.content), omega (arith, f.place, listing_short B))
 
   -- by the line of a refusal
-  pub listed-refusal : {a b : List ℕ} {r : ℕ} → (refusal ≡ 0 → ⊥) → Put a 0 (refusedLine refusal) b r
-      → Listed (listingOf refusal nodes orders words) nodes a b r
-  unfolding listingOf
-  listed-refusal h f = listed (rw (ne_eqb refusal 0 h) f)
+  pub listed_refusal : {a b : List ℕ} {r : ℕ} → (refusal ≡ 0 → ⊥) → Put a 0 (refused_line refusal) b r
+      → Listed (listing_of refusal nodes orders words) nodes a b r
+  unfolding listing_of
+  listed_refusal h f = listed (rw (ne_eqb refusal 0 h) f)
 
   -- by the head line and the lines of all nodes
-  pub listed-nodes : {a b c : List ℕ} {j k : ℕ} (n : ℕ) → refusal ≡ 0 → n ≤ nodes → nodes ≤ n → Put a 0 (headLine nodes orders) b j → Put b j (nodeLines n words) c k
-      → Listed (listingOf refusal nodes orders words) nodes a c k
-  unfolding listingOf
-  listed-nodes n z h l f g =
+  pub listed_nodes : {a b c : List ℕ} {j k : ℕ} (n : ℕ) → refusal ≡ 0 → n ≤ nodes → nodes ≤ n → Put a 0 (head_line nodes orders) b j → Put b j (node_lines n words) c k
+      → Listed (listing_of refusal nodes orders words) nodes a c k
+  unfolding listing_of
+  listed_nodes n z h l f g =
       let e : n ≡ nodes = omega arith in
       listed (rw (eq-eqb refusal 0 z) (put_then f (rw e at g)))

@@ -16,19 +16,19 @@ pub record Word (before : List ℕ) (at : ℕ) (word : List ℕ) (end : ℕ) (af
   pub short : r ≤ at + 11
 
 -- nothing is written yet
-pub put-none : (a : List ℕ) (i : ℕ) → Put a i [] a i
-put-none a i = record { place = omega arith; content = refl }
+pub put_none : (a : List ℕ) (i : ℕ) → Put a i [] a i
+put_none a i = record { place = omega arith; content = refl }
 
 -- a run of stores, in two parts
-sets-append : (b : List ℕ) (i : ℕ) (xs ys : List ℕ) → sets b i (xs ++ ys) ≡ sets (sets b i xs) (i + length xs) ys
-sets-append b i [] ys = let e : i + 0 ≡ i = omega arith in rw e
-sets-append b i (x ∷ xs) ys = let e : i + suc (length xs) ≡ suc i + length xs = omega arith in rw e (sets-append (set b i x) (suc i) xs ys)
+sets_append : (b : List ℕ) (i : ℕ) (xs ys : List ℕ) → sets b i (xs ++ ys) ≡ sets (sets b i xs) (i + length xs) ys
+sets_append b i [] ys = let e : i + 0 ≡ i = omega arith in rw e
+sets_append b i (x ∷ xs) ys = let e : i + suc (length xs) ≡ suc i + length xs = omega arith in rw e (sets_append (set b i x) (suc i) xs ys)
 
 -- one text after the other
 pub put_then : {a b c s t : List ℕ} {i j k : ℕ} → Put a i s b j → Put b j t c k → Put a i (s ++ t) c k
 put_then {a = a} {s = s} {t = t} {i = i} p q = record {
   place = omega (arith, length-append s t);
-  content = q.content ∙ rw (p.content, p.place) (sym (sets-append a i s t));
+  content = q.content ∙ rw (p.content, p.place) (sym (sets_append a i s t));
 }
 
 -- a word of a line, and the rest of the line
@@ -37,17 +37,17 @@ unfolding line
 line_word v ws p q = put_then p.put q
 
 -- the last word of a line
-pub line-last : {a b w : List ℕ} {i j : ℕ} → Word a i w 10 b j → Put a i (line (w ∷ [])) b j
+pub line_last : {a b w : List ℕ} {i j : ℕ} → Word a i w 10 b j → Put a i (line (w ∷ [])) b j
 unfolding line
-line-last p = p.put
+line_last p = p.put
 
 -- the buffer keeps its length
-pub put-length : {a t b : List ℕ} {i j : ℕ} → Put a i t b j → length b ≡ length a
-put-length {a = a} {t = t} {i = i} p = ap length p.content ∙ length-sets a i t
+pub put_length : {a t b : List ℕ} {i j : ℕ} → Put a i t b j → length b ≡ length a
+put_length {a = a} {t = t} {i = i} p = ap length p.content ∙ length-sets a i t
 
 -- the place after the first n bytes of a text
-pub put-place : (s : List ℕ) (n : ℕ) → n ≤ length s → {a b : List ℕ} {i j : ℕ} → Put a i (take n s) b j → j ≡ i + n
-put-place s n h p = omega (arith, length-take-le n s h)
+pub put_place : (s : List ℕ) (n : ℕ) → n ≤ length s → {a b : List ℕ} {i j : ℕ} → Put a i (take n s) b j → j ≡ i + n
+put_place s n h p = omega (arith, length-take-le n s h)
 
 -- one byte more of a text that is written byte by byte
 pub put_byte : (s : List ℕ) (n : ℕ) → n < length s → {a b c : List ℕ} {i j k : ℕ} → Put a i (take n s) b j → Put b j (get_or s n 0 ∷ []) c k → Put a i (take (n + 1) s) c k

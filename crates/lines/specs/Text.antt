@@ -20,7 +20,7 @@ digits (suc f) n =
     let more : List ℕ = digits f (n / 10) ++ digit (n % 10) ∷ [] in
     cond (ltb n 10) (digit n ∷ []) more
 
--- the numeral of n: `decimal-right` of specs/Digits.antt says so in plain terms
+-- the numeral of n: `decimal_right` of specs/Digits.antt says so in plain terms
 unfoldable pub decimal : ℕ → List ℕ
 decimal n = digits n n
 
@@ -29,8 +29,8 @@ unfoldable pub shown : ℕ → List ℕ
 shown n = cond (eqb n 4294967295) (bytes "-") (decimal n)
 
 -- the name of a kind, by its number; a tree has no other number here
-unfoldable pub kindWord : ℕ → List ℕ
-kindWord k =
+unfoldable pub kind_word : ℕ → List ℕ
+kind_word k =
     cond (eqb k 0) (bytes "first")
     (cond (eqb k 1) (bytes "end")
     (cond (eqb k 2) (bytes "step")
@@ -48,10 +48,10 @@ pub record Row : Type 0 where
   pub kind : ℕ
   pub job : ℕ
   pub segment : ℕ
-  pub earliest-leaving : ℕ
-  pub latest-leaving : ℕ
-  pub earliest-start : ℕ
-  pub latest-start : ℕ
+  pub earliest_leaving : ℕ
+  pub latest_leaving : ℕ
+  pub earliest_start : ℕ
+  pub latest_start : ℕ
 
 -- node i, of the tree's words, eight a node
 abbrev pub row_at : List ℕ → ℕ → Row
@@ -60,30 +60,30 @@ row_at words i = record {
   kind = get_or words (8 * i + 1) 0;
   job = get_or words (8 * i + 2) 0;
   segment = get_or words (8 * i + 3) 0;
-  earliest-leaving = get_or words (8 * i + 4) 0;
-  latest-leaving = get_or words (8 * i + 5) 0;
-  earliest-start = get_or words (8 * i + 6) 0;
-  latest-start = get_or words (8 * i + 7) 0;
+  earliest_leaving = get_or words (8 * i + 4) 0;
+  latest_leaving = get_or words (8 * i + 5) 0;
+  earliest_start = get_or words (8 * i + 6) 0;
+  latest_start = get_or words (8 * i + 7) 0;
 }
 
 -- its earliest and latest leaving, earliest and latest start
 abbrev pub tick_words : Row → List (List ℕ)
-tick_words row = shown row.earliest-leaving ∷ shown row.latest-leaving ∷ shown row.earliest-start ∷ shown row.latest-start ∷ []
+tick_words row = shown row.earliest_leaving ∷ shown row.latest_leaving ∷ shown row.earliest_start ∷ shown row.latest_start ∷ []
 
-unfoldable pub nodeLine : ℕ → Row → List ℕ
-nodeLine number row = line (decimal number ∷ shown row.parent ∷ kindWord row.kind ∷ shown row.job ∷ shown row.segment ∷ tick_words row)
+unfoldable pub node_line : ℕ → Row → List ℕ
+node_line number row = line (decimal number ∷ shown row.parent ∷ kind_word row.kind ∷ shown row.job ∷ shown row.segment ∷ tick_words row)
 
 -- the lines of nodes 0 .. n - 1
-unfoldable pub nodeLines : ℕ → List ℕ → List ℕ
-nodeLines zero words = []
-nodeLines (suc n) words = nodeLines n words ++ nodeLine n (row_at words n)
+unfoldable pub node_lines : ℕ → List ℕ → List ℕ
+node_lines zero words = []
+node_lines (suc n) words = node_lines n words ++ node_line n (row_at words n)
 
-unfoldable pub headLine : (nodes orders : ℕ) → List ℕ
-headLine nodes orders = line (bytes "nodes" ∷ decimal nodes ∷ bytes "orders" ∷ decimal orders ∷ [])
+unfoldable pub head_line : (nodes orders : ℕ) → List ℕ
+head_line nodes orders = line (bytes "nodes" ∷ decimal nodes ∷ bytes "orders" ∷ decimal orders ∷ [])
 
-unfoldable pub refusedLine : ℕ → List ℕ
-refusedLine refusal = line (bytes "refused" ∷ decimal refusal ∷ [])
+unfoldable pub refused_line : ℕ → List ℕ
+refused_line refusal = line (bytes "refused" ∷ decimal refusal ∷ [])
 
 -- the whole listing, for what the tree answers and its words
-unfoldable pub listingOf : (refusal nodes orders : ℕ) → List ℕ → List ℕ
-listingOf refusal nodes orders words = cond (eqb refusal 0) (headLine nodes orders ++ nodeLines nodes words) (refusedLine refusal)
+unfoldable pub listing_of : (refusal nodes orders : ℕ) → List ℕ → List ℕ
+listing_of refusal nodes orders words = cond (eqb refusal 0) (head_line nodes orders ++ node_lines nodes words) (refused_line refusal)

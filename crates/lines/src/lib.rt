@@ -1,7 +1,7 @@
 // The text of the listing that paper 01 shows, written into a lent buffer as far as it goes.
 ghost use Rattle.std.specs.Prelude.{◌≡◌, ◌+◌, ◌*◌, ◌^◌, ◌<◌, ◌≤◌, length};
 ghost use Rattle.std.proofs.lemmas.List.Edits.{sets};
-ghost use Rattle.lines.specs.Text.{line, row_at, tick_words, nodeLine, headLine, refusedLine, listingOf};
+ghost use Rattle.lines.specs.Text.{line, row_at, tick_words, node_line, head_line, refused_line, listing_of};
 ghost use Rattle.lines.specs.Put.{Put};
 
 mod put;
@@ -21,7 +21,7 @@ fn ticks(out: &mut [u8], at: usize, words: &[u32], i: u32) -> usize
 // The line of node i.
 fn node(out: &mut [u8], at: usize, words: &[u32], i: u32) -> usize
     requires { at + 99 < 2 ^ 64 }
-    ensures { Put out.old at (nodeLine i (row_at words.now i)) out.new result }
+    ensures { Put out.old at (node_line i (row_at words.now i)) out.new result }
 {
     let first = 8 * i as usize;
     let at = put::number(out, at, i, b' ');
@@ -33,7 +33,7 @@ fn node(out: &mut [u8], at: usize, words: &[u32], i: u32) -> usize
 }
 
 fn head(out: &mut [u8], nodes: u32, orders: u32) -> usize
-    ensures { Put out.old 0 (headLine nodes orders) out.new result }
+    ensures { Put out.old 0 (head_line nodes orders) out.new result }
 {
     let at = put::word(out, 0, b"nodes", b' ');
     let at = put::number(out, at, nodes, b' ');
@@ -42,7 +42,7 @@ fn head(out: &mut [u8], nodes: u32, orders: u32) -> usize
 }
 
 fn refused(out: &mut [u8], refusal: u32) -> usize
-    ensures { Put out.old 0 (refusedLine refusal) out.new result }
+    ensures { Put out.old 0 (refused_line refusal) out.new result }
 {
     let at = put::word(out, 0, b"refused", b' ');
     put::number(out, at, refusal, b'\n')
@@ -51,7 +51,7 @@ fn refused(out: &mut [u8], refusal: u32) -> usize
 // The listing of a tree's answer: refusal, nodes, orders, and the words of the nodes. Answers the length of the text, also where the buffer is
 // shorter and holds only its beginning.
 pub fn listing(refusal: u32, nodes: u32, orders: u32, words: &[u32], out: &mut [u8]) -> usize
-    ensures value { (result ≡ length (listingOf refusal nodes orders words.now)) × (out.new ≡ sets out.old 0 (listingOf refusal nodes orders words.now)) }
+    ensures value { (result ≡ length (listing_of refusal nodes orders words.now)) × (out.new ≡ sets out.old 0 (listing_of refusal nodes orders words.now)) }
     ensures short { result ≤ 100 * (nodes + 1) }
 {
     if refusal != 0 {

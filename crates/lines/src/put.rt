@@ -1,6 +1,6 @@
 // Words written into a lent buffer, as far as it goes. Each function writes at a place and answers the place after what it wrote.
 ghost use Rattle.std.specs.Prelude.{◌≡◌, ◌∷◌, [], ◌+◌, ◌^◌, ◌<◌, ◌≤◌, length, get_or};
-ghost use Rattle.lines.specs.Text.{decimal, shown, kindWord};
+ghost use Rattle.lines.specs.Text.{decimal, shown, kind_word};
 ghost use Rattle.lines.specs.Put.{Put, Word};
 
 // A word of the tree; 0 past the end.
@@ -74,7 +74,7 @@ pub fn field(out: &mut [u8], at: usize, words: &[u32], i: usize, end: u8) -> usi
 // A word of the tree that is the number of a kind, by its name.
 pub fn kind(out: &mut [u8], at: usize, words: &[u32], i: usize, end: u8) -> usize
     requires { at + 11 < 2 ^ 64 }
-    ensures { Word out.old at (kindWord (get_or words.now i 0)) end out.new result }
+    ensures { Word out.old at (kind_word (get_or words.now i 0)) end out.new result }
 {
     let k = word_at(words, i);
     match k {

@@ -41,8 +41,8 @@ pub record Info : Type 0 where
   pub label : Label
   pub earliest : ℕ
   pub latest : ℕ
-  pub earliest-start : ℕ
-  pub latest-start : ℕ
+  pub earliest_start : ℕ
+  pub latest_start : ℕ
 
 pub data Forest : Type 0 where
   none : Forest
@@ -86,7 +86,7 @@ module _ (J : JobSet) where
   -- the ticks of a switch's intervals are exactly those at which some run that has followed the path makes the switch, and starts what it names
   pub record Exact (c : List Label) (x : Info) : Type 0 where
     pub leaves : (t : ℕ) → ((x.earliest ≤ t) × (t ≤ x.latest)) ↔ Follows J c x.label (λ s. s.tick ≡ t)
-    pub starts : (t : ℕ) → ((x.earliest-start ≤ t) × (t ≤ x.latest-start)) ↔ Follows J c x.label (λ s. s.start ≡ t)
+    pub starts : (t : ℕ) → ((x.earliest_start ≤ t) × (t ≤ x.latest_start)) ↔ Follows J c x.label (λ s. s.start ≡ t)
 
   -- each sibling is exact, and what stands below it is right
   unfoldable pub Below : List Label → Forest → Type 0

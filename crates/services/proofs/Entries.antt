@@ -6,41 +6,41 @@ use mathlib.Core.List.{List, [], ◌∷◌, ◌++◌}
 use lib.ListN.{length, get_or, drop, length-drop, replicate, length-replicate}
 use lib.Seq.{get_or-drop, drop-drop}
 use Rattle.kernel.specs.Rules.{JobSet}
-use Rattle.kernel.specs.Words.{setOf, Loaded}
+use Rattle.kernel.specs.Words.{set_of, Loaded}
 use Rattle.kernel.specs.Laws.Times.{Entry, Reading, unread, read_on, read_all}
-use Rattle.services.specs.Told.{credited, ranNext, entryWords, entriesWords, TellsTimes}
+use Rattle.services.specs.Told.{credited, ran_next, entry_words, entries_words, TellsTimes}
 use Rattle.services.specs.declared.told.Ran.{Ran}
-use Rattle.services.proofs.Credits.{credit-length}
-use Rattle.services.proofs.Telling.{Follows, follows-none, follows_next}
+use Rattle.services.proofs.Credits.{credit_length}
+use Rattle.services.proofs.Telling.{Follows, follows_none, follows_next}
 
 -- i entries of l are read; what is still to come gives the reading of the whole
 pub record Going (w log times : List ℕ) (ran : Ran) (i : ℕ) (l : List Entry) : Type 0 where
   pub rest : List Entry
   pub reading : Reading
   pub follows : Follows w times ran reading
-  pub to-come : drop (4 * i) log ≡ entriesWords (setOf w) rest
-  pub whole : read_all (setOf w) reading rest ≡ read_all (setOf w) (unread (setOf w)) l
+  pub to_come_lem : drop (4 * i) log ≡ entries_words (set_of w) rest
+  pub whole : read_all (set_of w) reading rest ≡ read_all (set_of w) (unread (set_of w)) l
 
 -- so of whatever entries the log has
 pub record Reads (w log times : List ℕ) (ran : Ran) (i : ℕ) : Type 0 where
   pub inside : i ≤ length log / 4
   pub size : length times ≡ 64
-  pub going : (l : List Entry) → log ≡ entriesWords (setOf w) l → Going w log times ran i l
+  pub going : (l : List Entry) → log ≡ entries_words (set_of w) l → Going w log times ran i l
 
-pub reads_none : (w log times : List ℕ) (ran : Ran) → Loaded w → times ≡ replicate 64 0 → ran ≡ record { job = (setOf w).jobs; segment = 0; since = 0 } → Reads w log times ran 0
+pub reads_none : (w log times : List ℕ) (ran : Ran) → Loaded w → times ≡ replicate 64 0 → ran ≡ record { job = (set_of w).jobs; segment = 0; since = 0 } → Reads w log times ran 0
 reads_none w log times ran L e r = record {
   inside = omega arith;
   size = ap length e ∙ length-replicate {A = ℕ} 64 0;
-  going = λ l q. record { rest = l; reading = unread (setOf w); follows = rw (e, r) (follows-none w L); to-come = q; whole = refl };
+  going = λ l q. record { rest = l; reading = unread (set_of w); follows = rw (e, r) (follows_none w L); to_come_lem = q; whole = refl };
 }
 
-entries_none : (J : JobSet) → entriesWords J [] ≡ []
-unfolding entriesWords
+entries_none : (J : JobSet) → entries_words J [] ≡ []
+unfolding entries_words
 entries_none J = refl
 
-entries-more : (J : JobSet) (v : Entry) (vs : List Entry) → entriesWords J (v ∷ vs) ≡ entryWords J v ++ entriesWords J vs
-unfolding entriesWords
-entries-more J v vs = refl
+entries_more : (J : JobSet) (v : Entry) (vs : List Entry) → entries_words J (v ∷ vs) ≡ entry_words J v ++ entries_words J vs
+unfolding entries_words
+entries_more J v vs = refl
 
 module _ (w log times : List ℕ) (L : Loaded w) (ran : Ran) (i : ℕ) (h : i < length log / 4) (l : List Entry) where
   -- words are left, so that an entry is
@@ -48,49 +48,49 @@ module _ (w log times : List ℕ) (L : Loaded w) (ran : Ran) (i : ℕ) (h : i < 
   some_left e = omega (arith, ap length e, length-drop (4 * i) log)
 
   -- the words of the next entry
-  word_at : (v : Entry) (vs : List Entry) (k : ℕ) → drop (4 * i) log ≡ entriesWords (setOf w) (v ∷ vs)
-      → get_or log (4 * i + k) 0 ≡ get_or (entryWords (setOf w) v ++ entriesWords (setOf w) vs) k 0
-  word_at v vs k e = sym (get_or-drop (4 * i) log k 0) ∙ ap (λ (r : List ℕ). get_or r k 0) (e ∙ entries-more (setOf w) v vs)
+  word_at : (v : Entry) (vs : List Entry) (k : ℕ) → drop (4 * i) log ≡ entries_words (set_of w) (v ∷ vs)
+      → get_or log (4 * i + k) 0 ≡ get_or (entry_words (set_of w) v ++ entries_words (set_of w) vs) k 0
+  word_at v vs k e = sym (get_or-drop (4 * i) log k 0) ∙ ap (λ (r : List ℕ). get_or r k 0) (e ∙ entries_more (set_of w) v vs)
 
-  later-words : (v : Entry) (vs : List Entry) → drop (4 * i) log ≡ entriesWords (setOf w) (v ∷ vs) → drop (4 * (i + 1)) log ≡ entriesWords (setOf w) vs
-  later-words v vs e =
+  later_words : (v : Entry) (vs : List Entry) → drop (4 * i) log ≡ entries_words (set_of w) (v ∷ vs) → drop (4 * (i + 1)) log ≡ entries_words (set_of w) vs
+  later_words v vs e =
       let n : 4 * (i + 1) ≡ 4 * i + 4 = omega arith in
-      ap (λ (n : ℕ). drop n log) n ∙ sym (drop-drop 4 (4 * i) log) ∙ ap (drop 4) (e ∙ entries-more (setOf w) v vs)
+      ap (λ (n : ℕ). drop n log) n ∙ sym (drop-drop 4 (4 * i) log) ∙ ap (drop 4) (e ∙ entries_more (set_of w) v vs)
 
-  going_next : (r : List Entry) (m : Reading) → Follows w times ran m → drop (4 * i) log ≡ entriesWords (setOf w) r
-      → read_all (setOf w) m r ≡ read_all (setOf w) (unread (setOf w)) l
-      → Going w log (credited w ran (get_or log (4 * i + 1) 0) times) (ranNext w (get_or log (4 * i + 1) 0) (get_or log (4 * i + 2) 0) (get_or log (4 * i + 3) 0)) (i + 1) l
-  going_next [] m F e z = absurd (some_left (e ∙ entries_none (setOf w)))
+  going_next : (r : List Entry) (m : Reading) → Follows w times ran m → drop (4 * i) log ≡ entries_words (set_of w) r
+      → read_all (set_of w) m r ≡ read_all (set_of w) (unread (set_of w)) l
+      → Going w log (credited w ran (get_or log (4 * i + 1) 0) times) (ran_next w (get_or log (4 * i + 1) 0) (get_or log (4 * i + 2) 0) (get_or log (4 * i + 3) 0)) (i + 1) l
+  going_next [] m F e z = absurd (some_left (e ∙ entries_none (set_of w)))
   going_next (v ∷ vs) m F e z = record {
     rest = vs;
-    reading = read_on (setOf w) m v;
+    reading = read_on (set_of w) m v;
     follows = follows_next w times L ran m F _ v _ _ (word_at v vs 1 e) (word_at v vs 2 e) (word_at v vs 3 e);
-    to-come = later-words v vs e;
+    to_come_lem = later_words v vs e;
     whole = unfold read_all in z;
   }
 
-pub reads-next : (w log times more : List ℕ) (ran next : Ran) (i tick job segment : ℕ) → Loaded w → i < length log / 4 → Reads w log times ran i
+pub reads_next : (w log times more : List ℕ) (ran next : Ran) (i tick job segment : ℕ) → Loaded w → i < length log / 4 → Reads w log times ran i
     → tick ≡ get_or log (4 * i + 1) 0 → job ≡ get_or log (4 * i + 2) 0 → segment ≡ get_or log (4 * i + 3) 0
-    → more ≡ credited w ran tick times → next ≡ ranNext w tick job segment → Reads w log more next (i + 1)
-reads-next w log times more ran next i tick job segment L h R et ej es em en = record {
+    → more ≡ credited w ran tick times → next ≡ ran_next w tick job segment → Reads w log more next (i + 1)
+reads_next w log times more ran next i tick job segment L h R et ej es em en = record {
   inside = omega arith;
-  size = ap length em ∙ credit-length w ran tick times ∙ R.size;
+  size = ap length em ∙ credit_length w ran tick times ∙ R.size;
   going = λ l q.
       let G = R.going l q in
-      rw (em, en, et, ej, es) (going_next w log times L ran i h l G.rest G.reading G.follows G.to-come G.whole);
+      rw (em, en, et, ej, es) (going_next w log times L ran i h l G.rest G.reading G.follows G.to_come_lem G.whole);
 }
 
 module _ (w log times : List ℕ) (ran : Ran) (i : ℕ) where
   -- at the end nothing is to come
-  over : (l r : List Entry) (m : Reading) → length log / 4 ≤ i → i ≤ length log / 4 → Follows w times ran m → drop (4 * i) log ≡ entriesWords (setOf w) r
-      → read_all (setOf w) m r ≡ read_all (setOf w) (unread (setOf w)) l → Follows w times ran (read_all (setOf w) (unread (setOf w)) l)
+  over : (l r : List Entry) (m : Reading) → length log / 4 ≤ i → i ≤ length log / 4 → Follows w times ran m → drop (4 * i) log ≡ entries_words (set_of w) r
+      → read_all (set_of w) m r ≡ read_all (set_of w) (unread (set_of w)) l → Follows w times ran (read_all (set_of w) (unread (set_of w)) l)
   over l [] m h q F e z = rw (← z) (unfold read_all in F)
-  over l (v ∷ vs) m h q F e z = absurd (omega (arith, ap length (e ∙ entries-more (setOf w) v vs), length-drop (4 * i) log))
+  over l (v ∷ vs) m h q F e z = absurd (omega (arith, ap length (e ∙ entries_more (set_of w) v vs), length-drop (4 * i) log))
 
   pub reads_all : length log / 4 ≤ i → Reads w log times ran i → TellsTimes w log times
   reads_all h R = record {
     size = R.size;
     tells = λ l q.
         let G = R.going l q in
-        (over l G.rest G.reading h R.inside G.follows G.to-come G.whole).told;
+        (over l G.rest G.reading h R.inside G.follows G.to_come_lem G.whole).told;
   }

@@ -2,13 +2,13 @@
 use Prim.Native.Nat.{ℕ, ◌≤◌, ◌<◌}
 use native.Mathlib.Omega.{arith}
 use mathlib.Core.List.{List}
-use Rattle.kernel.specs.Words.{setOf, Loaded}
-use Rattle.kernel.specs.Laws.Sums.{one-of-sum, sum-millions}
+use Rattle.kernel.specs.Words.{set_of, Loaded}
+use Rattle.kernel.specs.Laws.Sums.{one_of_sum, sum_millions}
 use Rattle.kernel.specs.Laws.Ending.{work}
 
-module _ (w : List ℕ) (L : Loaded w) (i : ℕ) (h : i < (setOf w).jobs) where
-  pub few-of-job : (setOf w).segments i ≤ 64
-  few-of-job = omega (arith, one-of-sum (setOf w).segments (setOf w).jobs i h, L.few-segments)
+module _ (w : List ℕ) (L : Loaded w) (i : ℕ) (h : i < (set_of w).jobs) where
+  pub few_of_job : (set_of w).segments i ≤ 64
+  few_of_job = omega (arith, one_of_sum (set_of w).segments (set_of w).jobs i h, L.few_segments)
 
-  pub small-work : work (setOf w) (setOf w).longest i ≤ 64000000
-  small-work = omega (arith, few-of-job, sum-millions ((setOf w).longest i) ((setOf w).segments i) (λ k q. L.small_times i k h q))
+  pub small_work : work (set_of w) (set_of w).longest i ≤ 64000000
+  small_work = omega (arith, few_of_job, sum_millions ((set_of w).longest i) ((set_of w).segments i) (λ k q. L.small_times i k h q))

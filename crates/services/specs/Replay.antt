@@ -2,17 +2,17 @@
 use Rattle.std.specs.Prelude.{ℕ, ◌≤◌, ◌<◌, ◌≡◌, List, length}
 use Rattle.std.proofs.lemmas.List.Edits.{sets}
 use Rattle.kernel.specs.Rules.{JobSet, Switch, run_of}
-use Rattle.kernel.specs.Log.{logWords, timeIn}
-use Rattle.services.specs.Open.{jobsIn, Answered}
+use Rattle.kernel.specs.Log.{log_words, time_in}
+use Rattle.services.specs.Open.{jobs_in, Answered}
 use Rattle.services.specs.Times.{Fit}
 use Rattle.services.specs.declared.Replayed.{Replayed as Answer}
 
 -- the switches of the run with these times, and its log
-abbrev pub runIn : JobSet → List ℕ → List Switch
-runIn J times = run_of J (timeIn J times)
+abbrev pub run_in : JobSet → List ℕ → List Switch
+run_in J times = run_of J (time_in J times)
 
-abbrev pub logIn : JobSet → List ℕ → List ℕ
-logIn J times = logWords J (runIn J times)
+abbrev pub log_in : JobSet → List ℕ → List ℕ
+log_in J times = log_words J (run_in J times)
 
 module _ (times before after : List ℕ) (r : Answer) where
   -- with a refusal the count is 0, and the lent words hold what they held
@@ -24,10 +24,10 @@ module _ (times before after : List ℕ) (r : Answer) where
     -- 6: not exactly one time per segment, or one outside its bounds
     pub unfit : (Fit J times → ⊥) → Declined 6
     -- 7: the log needs more words than are lent
-    pub small : Fit J times → length before < length (logIn J times) → Declined 7
-    pub done : Fit J times → length (logIn J times) ≤ length before
-        → (r ≡ record { refusal = 0; switches = length (runIn J times) }) × (after ≡ sets before 0 (logIn J times))
+    pub small : Fit J times → length before < length (log_in J times) → Declined 7
+    pub done : Fit J times → length (log_in J times) ≤ length before
+        → (r ≡ record { refusal = 0; switches = length (run_in J times) }) × (after ≡ sets before 0 (log_in J times))
 
 -- what replay promises
 abbrev pub ReplayPromise : (bytes times before after : List ℕ) → Answer → Type 0
-ReplayPromise bytes times before after r = Answered bytes (Declined times before after r) (Replays times before after r (jobsIn bytes))
+ReplayPromise bytes times before after r = Answered bytes (Declined times before after r) (Replays times before after r (jobs_in bytes))

@@ -1,5 +1,5 @@
 // The services that stand on a table of bytes. Arbitrary bytes and numbers are answered, with a refusal's number where one applies.
-ghost use Rattle.kernel.specs.Words.{setOf, Loaded};
+ghost use Rattle.kernel.specs.Words.{set_of, Loaded};
 ghost use Rattle.services.specs.Open.{InFrame};
 ghost use Rattle.services.specs.Times.{Tells};
 ghost use Rattle.services.specs.Replay.{Replays, ReplayPromise};
@@ -38,7 +38,7 @@ pub fn replay(table: &[u8], times: &[u32], log: &mut [u32]) -> Replayed
 
 fn replay_set(set: &[u32; 322], times: &[u32], log: &mut [u32]) -> Replayed
     requires { Loaded set.now }
-    ensures { Replays times.now log.old log.new result (setOf set.now) }
+    ensures { Replays times.now log.old log.new result (set_of set.now) }
 {
     if !times::fit(set, times) {
         return Replayed {
@@ -85,7 +85,7 @@ pub fn judge(table: &[u8], log: &[u32], times: &mut [u32]) -> Judged
 
 fn judge_set(set: &[u32; 322], log: &[u32], times: &mut [u32]) -> Judged
     requires { InFrame set.now }
-    ensures { Judges log.now times.old times.new result (setOf set.now) }
+    ensures { Judges log.now times.old times.new result (set_of set.now) }
 {
     let count = times::segments(set);
     if times.len() < count {
@@ -148,7 +148,7 @@ pub fn tree(table: &[u8], nodes: &mut [u32]) -> Drawn
 
 fn tree_set(set: &[u32; 322], nodes: &mut [u32]) -> Drawn
     requires { InFrame set.now }
-    ensures { Trees nodes.old nodes.new result (setOf set.now) }
+    ensures { Trees nodes.old nodes.new result (set_of set.now) }
 {
     match walk::tree(set, nodes) {
         Found::Whole(count, orders) => Drawn {

@@ -1,7 +1,7 @@
 // One time per segment in table order, each within its bounds.
 ghost use Rattle.std.specs.Prelude.{◌≡◌};
 ghost use Rattle.kernel.specs.Jobs.{sum};
-ghost use Rattle.kernel.specs.Words.{setOf, Loaded};
+ghost use Rattle.kernel.specs.Words.{set_of, Loaded};
 ghost use Rattle.services.specs.Times.{Fit, Tells, FitJob, FitJobs};
 
 use kernel::jobs;
@@ -9,7 +9,7 @@ use kernel::jobs;
 // How many segments there are in all.
 pub fn segments(set: &[u32; 322]) -> usize
     requires { Loaded set.now }
-    ensures { result ≡ sum (setOf set.now).segments (setOf set.now).jobs }
+    ensures { result ≡ sum (set_of set.now).segments (set_of set.now).jobs }
 {
     let n = jobs::jobs(set);
     let mut total: usize = 0;
@@ -57,7 +57,7 @@ pub fn fit_jobs(set: &[u32; 322], times: &[u32]) -> bool
 
 pub fn fit(set: &[u32; 322], times: &[u32]) -> bool
     requires { Loaded set.now }
-    ensures { Tells (Fit (setOf set.now) times.now) result }
+    ensures { Tells (Fit (set_of set.now) times.now) result }
 {
     if times.len() != segments(set) {
         return false;

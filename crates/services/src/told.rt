@@ -1,7 +1,7 @@
 // The times that a log tells: how long each segment ran until each switch.
 ghost use Rattle.std.specs.Prelude.{◌≡◌, ◌+◌, ◌-◌, min, max, replicate};
-ghost use Rattle.kernel.specs.Words.{setOf, Loaded};
-ghost use Rattle.services.specs.Told.{credited, ranNext, TellsTimes};
+ghost use Rattle.kernel.specs.Words.{set_of, Loaded};
+ghost use Rattle.services.specs.Told.{credited, ran_next, TellsTimes};
 
 use kernel::jobs;
 
@@ -50,7 +50,7 @@ fn credit(set: &[u32; 322], times: &mut [u32; 64], ran: Ran, tick: u32)
 
 // What runs after a switch at this tick to a segment of a job: from then on, or once the job is released.
 fn next(set: &[u32; 322], tick: u32, job: u32, segment: u32) -> Ran
-    ensures { result ≡ ranNext set.now tick job segment }
+    ensures { result ≡ ran_next set.now tick job segment }
 {
     let j = job as usize;
     let release = jobs::release(set, j);

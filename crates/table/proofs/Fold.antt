@@ -11,110 +11,110 @@ use lib.Dec.{ltb}
 use borrow.Author.Tests.{ltb-false}
 use borrow.Table.Elements.{map_app}
 use Rattle.table.specs.Records.{Placed}
-use Rattle.table.specs.Table.{JobEntry, SegmentEntry, segmentIn, jobIn, frameAfter, segmentsOf, jobsFrom, jobsOf, frame_of, padded, tableFrom, recorded}
+use Rattle.table.specs.Table.{JobEntry, SegmentEntry, segment_in, job_in, frame_after, segments_of, jobs_from, jobs_of, frame_of, padded, table_from, recorded}
 use Rattle.table.specs.Refusal.{nothing, learn, outside, earlier, beyond, when, failing}
-use Rattle.table.specs.Steps.{kept, withFrame, withJob, withSegment, added, known_by, known_of, spot_of, firstSpot, scanOf, scanned}
+use Rattle.table.specs.Steps.{kept, with_frame, with_job, with_segment, added, known_by, known_of, spot_of, first_spot, scan_of, scanned}
 use Rattle.table.specs.declared.scan.Known.{Known}
 use Rattle.table.specs.declared.records.Record.{Record}
 use Rattle.table.specs.declared.records.Record.TheVariants.{Frame, Job, Segment}
 
 -- ---- lists of entries
 
-segments-snoc : (xs : List Placed) (r : Placed) → segmentsOf (xs ++ r ∷ []) ≡ segmentsOf xs ++ segmentIn r.what
-unfolding segmentsOf
-segments-snoc [] r = append-nil (segmentIn r.what)
-segments-snoc (x ∷ xs) r = rw (segments-snoc xs r, append_assoc)
+segments_snoc : (xs : List Placed) (r : Placed) → segments_of (xs ++ r ∷ []) ≡ segments_of xs ++ segment_in r.what
+unfolding segments_of
+segments_snoc [] r = append-nil (segment_in r.what)
+segments_snoc (x ∷ xs) r = rw (segments_snoc xs r, append_assoc)
 
-jobs-snoc : (k : ℕ) (xs : List Placed) (r : Placed) → jobsFrom k (xs ++ r ∷ []) ≡ jobsFrom k xs ++ jobIn r.at (k + length (segmentsOf xs)) r.what
-unfolding jobsFrom segmentsOf
-jobs-snoc k [] r = append-nil (jobIn r.at k r.what) ∙ ap (λ (n : ℕ). jobIn r.at n r.what) (omega arith)
-jobs-snoc k (x ∷ xs) r = rw (jobs-snoc (k + length (segmentIn x.what)) xs r, append_assoc, length-append (segmentIn x.what) (segmentsOf xs), add_assoc)
+jobs_snoc : (k : ℕ) (xs : List Placed) (r : Placed) → jobs_from k (xs ++ r ∷ []) ≡ jobs_from k xs ++ job_in r.at (k + length (segments_of xs)) r.what
+unfolding jobs_from segments_of
+jobs_snoc k [] r = append-nil (job_in r.at k r.what) ∙ ap (λ (n : ℕ). job_in r.at n r.what) (omega arith)
+jobs_snoc k (x ∷ xs) r = rw (jobs_snoc (k + length (segment_in x.what)) xs r, append_assoc, length-append (segment_in x.what) (segments_of xs), add_assoc)
 
-frame-snoc : (k : ℕ) (xs : List Placed) (r : Placed) → frame_of k (xs ++ r ∷ []) ≡ frameAfter (frame_of k xs) r.what
+frame_snoc : (k : ℕ) (xs : List Placed) (r : Placed) → frame_of k (xs ++ r ∷ []) ≡ frame_after (frame_of k xs) r.what
 unfolding frame_of
-frame-snoc k [] r = refl
-frame-snoc k (x ∷ xs) r = frame-snoc (frameAfter k x.what) xs r
+frame_snoc k [] r = refl
+frame_snoc k (x ∷ xs) r = frame_snoc (frame_after k x.what) xs r
 
 -- ---- what the records say, and where they fail a test
 
-pub known-snoc : (k : Known) (xs : List Placed) (r : Placed) → known_of k (xs ++ r ∷ []) ≡ learn (known_of k xs) r.what
+pub known_snoc : (k : Known) (xs : List Placed) (r : Placed) → known_of k (xs ++ r ∷ []) ≡ learn (known_of k xs) r.what
 unfolding known_of
-known-snoc k [] r = refl
-known-snoc k (x ∷ xs) r = known-snoc (learn k x.what) xs r
+known_snoc k [] r = refl
+known_snoc k (x ∷ xs) r = known_snoc (learn k x.what) xs r
 
-failing-snoc : (test : Known → Record → Bool) (k : Known) (xs : List Placed) (r : Placed)
+failing_snoc : (test : Known → Record → Bool) (k : Known) (xs : List Placed) (r : Placed)
     → failing test k (xs ++ r ∷ []) ≡ failing test k xs ++ when (test (known_of k xs) r.what) r.at
 unfolding failing known_of
-failing-snoc test k [] r = append-nil (when (test k r.what) r.at)
-failing-snoc test k (x ∷ xs) r = rw (failing-snoc test (learn k x.what) xs r, append_assoc)
+failing_snoc test k [] r = append-nil (when (test k r.what) r.at)
+failing_snoc test k (x ∷ xs) r = rw (failing_snoc test (learn k x.what) xs r, append_assoc)
 
-spot-snoc : (ats : List ℕ) (b : Bool) (at : ℕ) → spot_of (ats ++ when b at) ≡ firstSpot (spot_of ats) b at
-spot-snoc [] true at = refl
-spot-snoc [] false at = refl
-spot-snoc (x ∷ xs) b at = refl
+spot_snoc : (ats : List ℕ) (b : Bool) (at : ℕ) → spot_of (ats ++ when b at) ≡ first_spot (spot_of ats) b at
+spot_snoc [] true at = refl
+spot_snoc [] false at = refl
+spot_snoc (x ∷ xs) b at = refl
 
 -- one record of which is learnt what it gives
 module _ (k : Known) where
-  learn-frame : (r : Record) → (learn k r).frame ≡ frameAfter k.frame r
-  learn-frame (Frame f) = refl
-  learn-frame (Job r b n) = refl
-  learn-frame (Segment l h m) = refl
+  learn_frame : (r : Record) → (learn k r).frame ≡ frame_after k.frame r
+  learn_frame (Frame f) = refl
+  learn_frame (Job r b n) = refl
+  learn_frame (Segment l h m) = refl
 
-  learn-jobs : (at i : ℕ) (r : Record) → (learn k r).jobs ≡ k.jobs + length (jobIn at i r)
-  learn-jobs at i (Frame f) = omega arith
-  learn-jobs at i (Job r b n) = refl
-  learn-jobs at i (Segment l h m) = omega arith
+  learn_jobs : (at i : ℕ) (r : Record) → (learn k r).jobs ≡ k.jobs + length (job_in at i r)
+  learn_jobs at i (Frame f) = omega arith
+  learn_jobs at i (Job r b n) = refl
+  learn_jobs at i (Segment l h m) = omega arith
 
-  learn-segments : (r : Record) → (learn k r).segments ≡ k.segments + length (segmentIn r)
-  learn-segments (Frame f) = omega arith
-  learn-segments (Job r b n) = omega arith
-  learn-segments (Segment l h m) = refl
+  learn_segments : (r : Record) → (learn k r).segments ≡ k.segments + length (segment_in r)
+  learn_segments (Frame f) = omega arith
+  learn_segments (Job r b n) = omega arith
+  learn_segments (Segment l h m) = refl
 
-known-frame : (k : Known) (xs : List Placed) → (known_of k xs).frame ≡ frame_of k.frame xs
+known_frame : (k : Known) (xs : List Placed) → (known_of k xs).frame ≡ frame_of k.frame xs
 unfolding known_of frame_of
-known-frame k [] = refl
-known-frame k (x ∷ xs) = known-frame (learn k x.what) xs ∙ rw (learn-frame k x.what)
+known_frame k [] = refl
+known_frame k (x ∷ xs) = known_frame (learn k x.what) xs ∙ rw (learn_frame k x.what)
 
-pub known-jobs : (k : Known) (i : ℕ) (xs : List Placed) → (known_of k xs).jobs ≡ k.jobs + length (jobsFrom i xs)
-unfolding known_of jobsFrom
-known-jobs k i [] = omega arith
-known-jobs k i (x ∷ xs) =
+pub known_jobs : (k : Known) (i : ℕ) (xs : List Placed) → (known_of k xs).jobs ≡ k.jobs + length (jobs_from i xs)
+unfolding known_of jobs_from
+known_jobs k i [] = omega arith
+known_jobs k i (x ∷ xs) =
     omega (
       arith,
-      known-jobs (learn k x.what) (i + length (segmentIn x.what)) xs,
-      learn-jobs k x.at i x.what,
-      length-append (jobIn x.at i x.what) (jobsFrom (i + length (segmentIn x.what)) xs),
+      known_jobs (learn k x.what) (i + length (segment_in x.what)) xs,
+      learn_jobs k x.at i x.what,
+      length-append (job_in x.at i x.what) (jobs_from (i + length (segment_in x.what)) xs),
     )
 
-pub known-segments : (k : Known) (xs : List Placed) → (known_of k xs).segments ≡ k.segments + length (segmentsOf xs)
-unfolding known_of segmentsOf
-known-segments k [] = omega arith
-known-segments k (x ∷ xs) =
-    omega (arith, known-segments (learn k x.what) xs, learn-segments k x.what, length-append (segmentIn x.what) (segmentsOf xs))
+pub known_segments : (k : Known) (xs : List Placed) → (known_of k xs).segments ≡ k.segments + length (segments_of xs)
+unfolding known_of segments_of
+known_segments k [] = omega arith
+known_segments k (x ∷ xs) =
+    omega (arith, known_segments (learn k x.what) xs, learn_segments k x.what, length-append (segment_in x.what) (segments_of xs))
 
 -- the table and the scan tell what is known
-pub known-by : (xs : List Placed) → known_by (recorded xs) (scanOf xs).release ≡ known_of nothing xs
-unfolding recorded tableFrom scanOf
-known-by xs = λ i. record {
-  frame = sym (known-frame nothing xs) i;
+pub known_by_lem : (xs : List Placed) → known_by (recorded xs) (scan_of xs).release ≡ known_of nothing xs
+unfolding recorded table_from scan_of
+known_by_lem xs = λ i. record {
+  frame = sym (known_frame nothing xs) i;
   release = (known_of nothing xs).release;
-  jobs = sym (known-jobs nothing 0 xs ∙ zero-add (length (jobsOf xs))) i;
-  segments = sym (known-segments nothing xs ∙ zero-add (length (segmentsOf xs))) i;
+  jobs = sym (known_jobs nothing 0 xs ∙ zero-add (length (jobs_of xs))) i;
+  segments = sym (known_segments nothing xs ∙ zero-add (length (segments_of xs))) i;
 }
 
 -- ---- rows of the table
 
-length-padded : (n : ℕ) (xs : List ℕ) → length (padded n xs) ≡ n
+length_padded : (n : ℕ) (xs : List ℕ) → length (padded n xs) ≡ n
 unfolding padded
-length-padded zero xs = refl
-length-padded (suc n) [] = ap suc (length-padded n [])
-length-padded (suc n) (x ∷ xs) = ap suc (length-padded n xs)
+length_padded zero xs = refl
+length_padded (suc n) [] = ap suc (length_padded n [])
+length_padded (suc n) (x ∷ xs) = ap suc (length_padded n xs)
 
-set-padded : (n : ℕ) (xs : List ℕ) (v : ℕ) → set (padded n xs) (length xs) v ≡ padded n (xs ++ v ∷ [])
+set_padded : (n : ℕ) (xs : List ℕ) (v : ℕ) → set (padded n xs) (length xs) v ≡ padded n (xs ++ v ∷ [])
 unfolding padded
-set-padded zero xs v = refl
-set-padded (suc n) [] v = refl
-set-padded (suc n) (x ∷ xs) v = ap (λ (l : List ℕ). x ∷ l) (set-padded n xs v)
+set_padded zero xs v = refl
+set_padded (suc n) [] v = refl
+set_padded (suc n) (x ∷ xs) v = ap (λ (l : List ℕ). x ∷ l) (set_padded n xs v)
 
 kept_set : (n : ℕ) (l : List ℕ) (i v : ℕ) → length l ≡ n → kept n l i v ≡ set l i v
 kept_set n l i v e = go (ltb i n) refl
@@ -125,23 +125,23 @@ kept_set n l i v e = go (ltb i n) refl
 
 row_more : {E : Type 0} (n : ℕ) (f : E → ℕ) (xs : List E) (v : E) → kept n (padded n (map f xs)) (length xs) (f v) ≡ padded n (map f (xs ++ v ∷ []))
 row_more n f xs v =
-    kept_set n (padded n (map f xs)) (length xs) (f v) (length-padded n (map f xs))
-    ∙ rw (map_app f xs (v ∷ []), ← length-map xs f) (set-padded n (map f xs) (f v))
+    kept_set n (padded n (map f xs)) (length xs) (f v) (length_padded n (map f xs))
+    ∙ rw (map_app f xs (v ∷ []), ← length-map xs f) (set_padded n (map f xs) (f v))
 
-count-more : {E : Type 0} (xs : List E) (v : E) → length xs + 1 ≡ length (xs ++ v ∷ [])
-count-more xs v = rw (length-append xs (v ∷ []))
+count_more : {E : Type 0} (xs : List E) (v : E) → length xs + 1 ≡ length (xs ++ v ∷ [])
+count_more xs v = rw (length-append xs (v ∷ []))
 
 -- the table with another frame length, with one job more, and with one segment more
-frame-new : (g f : ℕ) (js : List JobEntry) (ss : List SegmentEntry) → withFrame (tableFrom g js ss) f ≡ tableFrom f js ss
-unfolding withFrame tableFrom
-frame-new g f js ss = refl
+frame_new : (g f : ℕ) (js : List JobEntry) (ss : List SegmentEntry) → with_frame (table_from g js ss) f ≡ table_from f js ss
+unfolding with_frame table_from
+frame_new g f js ss = refl
 
-job-more : (f : ℕ) (js : List JobEntry) (ss : List SegmentEntry) (e : JobEntry) → e.first ≡ length ss
-    → withJob (tableFrom f js ss) e.mark e.release e.base e.count ≡ tableFrom f (js ++ e ∷ []) ss
-unfolding withJob tableFrom
-job-more f js ss e h = rw (← h) (λ i. record {
+job_more : (f : ℕ) (js : List JobEntry) (ss : List SegmentEntry) (e : JobEntry) → e.first ≡ length ss
+    → with_job (table_from f js ss) e.mark e.release e.base e.count ≡ table_from f (js ++ e ∷ []) ss
+unfolding with_job table_from
+job_more f js ss e h = rw (← h) (λ i. record {
   frame = f;
-  jobs = count-more js e i;
+  jobs = count_more js e i;
   segments = e.first;
   mark = row_more 32 (λ (x : JobEntry). x.mark) js e i;
   release = row_more 32 (λ (x : JobEntry). x.release) js e i;
@@ -153,13 +153,13 @@ job-more f js ss e h = rw (← h) (λ i. record {
   held = padded 64 (map (λ (x : SegmentEntry). x.held) ss);
 })
 
-segment-more : (f : ℕ) (js : List JobEntry) (ss : List SegmentEntry) (e : SegmentEntry)
-    → withSegment (tableFrom f js ss) e.shortest e.longest e.held ≡ tableFrom f js (ss ++ e ∷ [])
-unfolding withSegment tableFrom
-segment-more f js ss e = λ i. record {
+segment_more : (f : ℕ) (js : List JobEntry) (ss : List SegmentEntry) (e : SegmentEntry)
+    → with_segment (table_from f js ss) e.shortest e.longest e.held ≡ table_from f js (ss ++ e ∷ [])
+unfolding with_segment table_from
+segment_more f js ss e = λ i. record {
   frame = f;
   jobs = length js;
-  segments = count-more ss e i;
+  segments = count_more ss e i;
   mark = padded 32 (map (λ (x : JobEntry). x.mark) js);
   release = padded 32 (map (λ (x : JobEntry). x.release) js);
   base = padded 32 (map (λ (x : JobEntry). x.base) js);
@@ -172,34 +172,34 @@ segment-more f js ss e = λ i. record {
 
 -- ---- the table and the scan of the records with one more
 
-parts-snoc : (xs : List Placed) (at : ℕ) (r : Record)
-    → tableFrom (frameAfter (frame_of 0 xs) r) (jobsOf xs ++ jobIn at (length (segmentsOf xs)) r) (segmentsOf xs ++ segmentIn r)
+parts_snoc : (xs : List Placed) (at : ℕ) (r : Record)
+    → table_from (frame_after (frame_of 0 xs) r) (jobs_of xs ++ job_in at (length (segments_of xs)) r) (segments_of xs ++ segment_in r)
     ≡ recorded (xs ++ record { at = at; what = r } ∷ [])
 unfolding recorded
-parts-snoc xs at r =
-    let x : Placed = record { at = at; what = r } in rw (frame-snoc 0 xs x, jobs-snoc 0 xs x, segments-snoc xs x, zero-add)
+parts_snoc xs at r =
+    let x : Placed = record { at = at; what = r } in rw (frame_snoc 0 xs x, jobs_snoc 0 xs x, segments_snoc xs x, zero-add)
 
-pub table-snoc : (xs : List Placed) (at : ℕ) (r : Record) → added (recorded xs) at r ≡ recorded (xs ++ record { at = at; what = r } ∷ [])
+pub table_snoc : (xs : List Placed) (at : ℕ) (r : Record) → added (recorded xs) at r ≡ recorded (xs ++ record { at = at; what = r } ∷ [])
 unfolding added recorded
-table-snoc xs at (Frame f) = frame-new (frame_of 0 xs) f (jobsOf xs) (segmentsOf xs) ∙ (simp append-nil at (parts-snoc xs at (Frame f)))
-table-snoc xs at (Job r b n) =
-    job-more (frame_of 0 xs) (jobsOf xs) (segmentsOf xs) (record { mark = at; release = r; base = b; first = length (segmentsOf xs); count = n }) refl
-    ∙ (simp append-nil at (parts-snoc xs at (Job r b n)))
-table-snoc xs at (Segment l h m) =
-    segment-more (frame_of 0 xs) (jobsOf xs) (segmentsOf xs) (record { shortest = l; longest = h; held = m })
-    ∙ (simp append-nil at (parts-snoc xs at (Segment l h m)))
+table_snoc xs at (Frame f) = frame_new (frame_of 0 xs) f (jobs_of xs) (segments_of xs) ∙ (simp append-nil at (parts_snoc xs at (Frame f)))
+table_snoc xs at (Job r b n) =
+    job_more (frame_of 0 xs) (jobs_of xs) (segments_of xs) (record { mark = at; release = r; base = b; first = length (segments_of xs); count = n }) refl
+    ∙ (simp append-nil at (parts_snoc xs at (Job r b n)))
+table_snoc xs at (Segment l h m) =
+    segment_more (frame_of 0 xs) (jobs_of xs) (segments_of xs) (record { shortest = l; longest = h; held = m })
+    ∙ (simp append-nil at (parts_snoc xs at (Segment l h m)))
 
-spot-more : (test : Known → Record → Bool) (xs : List Placed) (at : ℕ) (r : Record)
-    → firstSpot (spot_of (failing test nothing xs)) (test (known_of nothing xs) r) at ≡ spot_of (failing test nothing (xs ++ record { at = at; what = r } ∷ []))
-spot-more test xs at r =
-    sym (spot-snoc (failing test nothing xs) (test (known_of nothing xs) r) at)
-    ∙ ap spot_of (sym (failing-snoc test nothing xs (record { at = at; what = r })))
+spot_more : (test : Known → Record → Bool) (xs : List Placed) (at : ℕ) (r : Record)
+    → first_spot (spot_of (failing test nothing xs)) (test (known_of nothing xs) r) at ≡ spot_of (failing test nothing (xs ++ record { at = at; what = r } ∷ []))
+spot_more test xs at r =
+    sym (spot_snoc (failing test nothing xs) (test (known_of nothing xs) r) at)
+    ∙ ap spot_of (sym (failing_snoc test nothing xs (record { at = at; what = r })))
 
-pub scan-snoc : (xs : List Placed) (at : ℕ) (r : Record) → scanned (scanOf xs) (known_of nothing xs) at r ≡ scanOf (xs ++ record { at = at; what = r } ∷ [])
-unfolding scanned scanOf
-scan-snoc xs at r = λ i. record {
-  release = ap (λ (k : Known). k.release) (sym (known-snoc nothing xs (record { at = at; what = r }))) i;
-  faulty = spot-more outside xs at r i;
-  early = spot-more earlier xs at r i;
-  beyond = spot-more beyond xs at r i;
+pub scan_snoc : (xs : List Placed) (at : ℕ) (r : Record) → scanned (scan_of xs) (known_of nothing xs) at r ≡ scan_of (xs ++ record { at = at; what = r } ∷ [])
+unfolding scanned scan_of
+scan_snoc xs at r = λ i. record {
+  release = ap (λ (k : Known). k.release) (sym (known_snoc nothing xs (record { at = at; what = r }))) i;
+  faulty = spot_more outside xs at r i;
+  early = spot_more earlier xs at r i;
+  beyond = spot_more beyond xs at r i;
 }

@@ -7,9 +7,9 @@ use mathlib.Core.Bool.{Bool, true, false, cond, ◌||◌, true≢false}
 use lib.ListN.{length, get_or}
 use lib.Dec.{leb, ltb, eqb}
 use borrow.Author.Tests.{leb-false, ltb-false, eqb-false}
-use Rattle.table.specs.Records.{Placed, recordAt, due, lacking, placeAfter, mayEnd, reading_of}
-use Rattle.table.specs.Table.{JobEntry, SegmentEntry, jobsFrom, jobsOf, segmentsOf, frame_of, padded, tableFrom, recorded}
-use Rattle.table.specs.Refusal.{nothing, learn, outside, earlier, beyond, failing, refusal, outcomeOf}
+use Rattle.table.specs.Records.{Placed, record_at, due, lacking, place_after, may_end, reading_of}
+use Rattle.table.specs.Table.{JobEntry, SegmentEntry, jobs_from, jobs_of, segments_of, frame_of, padded, table_from, recorded}
+use Rattle.table.specs.Refusal.{nothing, learn, outside, earlier, beyond, failing, refusal, outcome_of}
 use Rattle.table.specs.Sound.{SoundJob, SoundSegment, Sound}
 use Rattle.table.specs.declared.Outcome.{Outcome}
 use Rattle.table.specs.declared.scan.Known.{Known}
@@ -18,8 +18,8 @@ use Rattle.table.specs.declared.records.Place.TheVariants.{First, Next, Within}
 use Rattle.table.specs.declared.records.Record.{Record}
 use Rattle.table.specs.declared.records.Record.TheVariants.{Frame, Job, Segment}
 use Rattle.table.specs.declared.records.Answer.TheVariants.{Whole}
-use Rattle.table.proofs.Walk.{marked-whole}
-use Rattle.table.proofs.Whole.{lacking-due, ended-lacks, not-frame, not-job, each, accepted, passes, getD-padded, refusal_is, table_is}
+use Rattle.table.proofs.Walk.{marked_whole}
+use Rattle.table.proofs.Whole.{lacking_due, ended_lacks, not_frame, not_job, each, accepted, passes, get_d_padded, refusal_is, table_is}
 
 neither : (a b : Bool) → (a || b) ≡ false → (a ≡ false) × (b ≡ false)
 neither true b q = absurd (true≢false q)
@@ -29,31 +29,31 @@ neither false b q = (refl, q)
 
 -- there is room for these records after the known ones
 Room : Known → List Placed → Type 0
-Room k rs = (i : ℕ) → (k.jobs + length (jobsFrom i rs) ≤ 32) × (k.segments + length (segmentsOf rs) ≤ 64)
+Room k rs = (i : ℕ) → (k.jobs + length (jobs_from i rs) ≤ 32) × (k.segments + length (segments_of rs) ≤ 64)
 
 -- one record that is not beyond, before records that have room
-room-step : (k : Known) (at : ℕ) (r : Record) (rs : List Placed) → k.jobs ≤ 32 → k.segments ≤ 64 → beyond k r ≡ false
+room_step : (k : Known) (at : ℕ) (r : Record) (rs : List Placed) → k.jobs ≤ 32 → k.segments ≤ 64 → beyond k r ≡ false
     → ((learn k r).jobs ≤ 32 → (learn k r).segments ≤ 64 → Room (learn k r) rs) → Room k (record { at = at; what = r } ∷ rs)
-unfolding Room jobsFrom segmentsOf
-room-step k at (Frame f) rs a b t ih i = let m = ih a b (i + 0) in (omega (arith, m.0), omega (arith, m.1))
-room-step k at (Job x y z) rs a b t ih i =
+unfolding Room jobs_from segments_of
+room_step k at (Frame f) rs a b t ih i = let m = ih a b (i + 0) in (omega (arith, m.0), omega (arith, m.1))
+room_step k at (Job x y z) rs a b t ih i =
     let h = leb-false 32 k.jobs t in let m = ih (omega arith) b (i + 0) in (omega (arith, m.0), omega (arith, m.1))
-room-step k at (Segment x y z) rs a b t ih i =
+room_step k at (Segment x y z) rs a b t ih i =
     let h = leb-false 64 k.segments t in let m = ih a (omega arith) (i + 1) in (omega (arith, m.0), omega (arith, m.1))
 
 room : (k : Known) (rs : List Placed) → k.jobs ≤ 32 → k.segments ≤ 64 → failing beyond k rs ≡ [] → Room k rs
 unfolding failing
-room k [] a b e = unfold Room jobsFrom segmentsOf in λ i. (omega arith, omega arith)
+room k [] a b e = unfold Room jobs_from segments_of in λ i. (omega arith, omega arith)
 room k (r ∷ rs) a b e =
     let (t, q) = passes (beyond k r.what) r.at (failing beyond (learn k r.what) rs) e in
-    room-step k r.at r.what rs a b t (λ a b. room (learn k r.what) rs a b q)
+    room_step k r.at r.what rs a b t (λ a b. room (learn k r.what) rs a b q)
 
-table-room : (s : List ℕ) → (refusal s).number ≡ 0 → (length (jobsOf (reading_of s).records) ≤ 32) × (length (segmentsOf (reading_of s).records) ≤ 64)
+table_room : (s : List ℕ) → (refusal s).number ≡ 0 → (length (jobs_of (reading_of s).records) ≤ 32) × (length (segments_of (reading_of s).records) ≤ 64)
 unfolding Room
-table-room s z = let m = room nothing (reading_of s).records (omega arith) (omega arith) (accepted s z).few 0 in (omega (arith, m.0), omega (arith, m.1))
+table_room s z = let m = room nothing (reading_of s).records (omega arith) (omega arith) (accepted s z).few 0 in (omega (arith, m.0), omega (arith, m.1))
 
-pub few-jobs : (s : List ℕ) → (refusal s).number ≡ 0 → length (jobsOf (reading_of s).records) ≤ 32
-few-jobs s z = (table-room s z).0
+pub few_jobs : (s : List ℕ) → (refusal s).number ≡ 0 → length (jobs_of (reading_of s).records) ≤ 32
+few_jobs s z = (table_room s z).0
 
 -- ---- what a place allows
 
@@ -63,30 +63,30 @@ Later First = ⊥
 Later Next = Unit {0}
 Later (Within n) = Unit {0}
 
-later-due : (n : ℕ) → Later (due n)
-later-due n = go (eqb n 0)
+later_due : (n : ℕ) → Later (due n)
+later_due n = go (eqb n 0)
   where
     go : (b : Bool) → Later (cond b Next (Within n))
     go true = tt
     go false = tt
 
 -- where a job or a segment is due no FR record is read
-no-frame : (p : Place) (s : List ℕ) (f : ℕ) → Later p → recordAt p s ≡ Whole (Frame f) → ⊥
-unfolding recordAt
-no-frame First s f h e = h
-no-frame Next s f h e = let q = (marked-whole s _ _ _ _ e).0 in let z : ◌≡◌ {A = ℕ} 0 1 = cc in omega arith
-no-frame (Within n) s f h e = not-frame n s f e
+no_frame : (p : Place) (s : List ℕ) (f : ℕ) → Later p → record_at p s ≡ Whole (Frame f) → ⊥
+unfolding record_at
+no_frame First s f h e = h
+no_frame Next s f h e = let q = (marked_whole s _ _ _ _ e).0 in let z : ◌≡◌ {A = ℕ} 0 1 = cc in omega arith
+no_frame (Within n) s f h e = not_frame n s f e
 
 -- where another record is read, no segment was due; a segment is read only where one was due
-job-lacks : (p : Place) (s : List ℕ) (a b m : ℕ) → recordAt p s ≡ Whole (Job a b m) → lacking p ≡ 0
-job-lacks First s a b m e = refl
-job-lacks Next s a b m e = refl
-job-lacks (Within n) s a b m e = absurd (not-job n s a b m e)
+job_lacks : (p : Place) (s : List ℕ) (a b m : ℕ) → record_at p s ≡ Whole (Job a b m) → lacking p ≡ 0
+job_lacks First s a b m e = refl
+job_lacks Next s a b m e = refl
+job_lacks (Within n) s a b m e = absurd (not_job n s a b m e)
 
-frame-lacks : (p : Place) (s : List ℕ) (f : ℕ) → recordAt p s ≡ Whole (Frame f) → lacking p ≡ 0
-frame-lacks First s f e = refl
-frame-lacks Next s f e = refl
-frame-lacks (Within n) s f e = absurd (not-frame n s f e)
+frame_lacks : (p : Place) (s : List ℕ) (f : ℕ) → record_at p s ≡ Whole (Frame f) → lacking p ≡ 0
+frame_lacks First s f e = refl
+frame_lacks Next s f e = refl
+frame_lacks (Within n) s f e = absurd (not_frame n s f e)
 
 -- a place that says how many are due says more than none
 abbrev Proper : Place → Type 0
@@ -94,18 +94,18 @@ Proper First = Unit {0}
 Proper Next = Unit {0}
 Proper (Within n) = 0 < n
 
-proper-due : (n : ℕ) → Proper (due n)
-proper-due n = go (eqb n 0) refl
+proper_due : (n : ℕ) → Proper (due n)
+proper_due n = go (eqb n 0) refl
   where
     go : (b : Bool) → eqb n 0 ≡ b → Proper (cond b Next (Within n))
     go true q = tt
     go false q = let d = eqb-false n 0 q in omega arith
 
-segment-lacks : (p : Place) (s : List ℕ) (a b m : ℕ) → Proper p → recordAt p s ≡ Whole (Segment a b m) → 0 < lacking p
-unfolding recordAt
-segment-lacks First s a b m h e = let q = (marked-whole s _ _ _ _ e).0 in let z : ◌≡◌ {A = ℕ} 0 1 = cc in omega arith
-segment-lacks Next s a b m h e = let q = (marked-whole s _ _ _ _ e).0 in let z : ◌≡◌ {A = ℕ} 0 1 = cc in omega arith
-segment-lacks (Within n) s a b m h e = h
+segment_lacks : (p : Place) (s : List ℕ) (a b m : ℕ) → Proper p → record_at p s ≡ Whole (Segment a b m) → 0 < lacking p
+unfolding record_at
+segment_lacks First s a b m h e = let q = (marked_whole s _ _ _ _ e).0 in let z : ◌≡◌ {A = ℕ} 0 1 = cc in omega arith
+segment_lacks Next s a b m h e = let q = (marked_whole s _ _ _ _ e).0 in let z : ◌≡◌ {A = ℕ} 0 1 = cc in omega arith
+segment_lacks (Within n) s a b m h e = h
 
 -- ---- the entries that records give
 
@@ -134,22 +134,22 @@ chain_same : (i i' n n' : ℕ) (es : List JobEntry) → i ≡ i' → n ≡ n' �
 chain_same i i' n n' es a b c = rw (← a, ← b) c
 
 -- a record within its bounds
-sound-job : (k : Known) (a b m : ℕ) → outside k (Job a b m) ≡ false → SoundJob k.frame a b m
-sound-job k a b m q =
+sound_job : (k : Known) (a b m : ℕ) → outside k (Job a b m) ≡ false → SoundJob k.frame a b m
+sound_job k a b m q =
     let e4 = neither (leb k.frame a || ltb b 1 || ltb 200 b || ltb m 1) (ltb 8 m) q in
     let e3 = neither (leb k.frame a || ltb b 1 || ltb 200 b) (ltb m 1) e4.0 in
     let e2 = neither (leb k.frame a || ltb b 1) (ltb 200 b) e3.0 in
     let e1 = neither (leb k.frame a) (ltb b 1) e2.0 in
     record {
       released = leb-false k.frame a e1.0;
-      base-some = ltb-false b 1 e1.1;
-      base-most = ltb-false 200 b e2.1;
-      count-some = ltb-false m 1 e3.1;
+      base_some = ltb-false b 1 e1.1;
+      base_most = ltb-false 200 b e2.1;
+      count_some = ltb-false m 1 e3.1;
       count_most = ltb-false 8 m e4.1;
     }
 
-sound-segment : (k : Known) (a b m : ℕ) → outside k (Segment a b m) ≡ false → SoundSegment a b
-sound-segment k a b m q =
+sound_segment : (k : Known) (a b m : ℕ) → outside k (Segment a b m) ≡ false → SoundSegment a b
+sound_segment k a b m q =
     let e2 = neither (ltb a 1 || ltb b a) (ltb 1000000 b) q in
     let e1 = neither (ltb a 1) (ltb b a) e2.0 in
     record { some = ltb-false a 1 e1.0; order = ltb-false b a e1.1; most = ltb-false 1000000 b e2.1 }
@@ -158,66 +158,66 @@ sound-segment k a b m q =
 
 record Keeps (p : Place) (rs : List Placed) : Type 0 where
   frame : Later p → (g : ℕ) → frame_of g rs ≡ g
-  frame-most : (k : Known) → failing outside k rs ≡ [] → k.frame ≤ 1000000 → frame_of k.frame rs ≤ 1000000
-  jobs : (k : Known) (i : ℕ) → failing outside k rs ≡ [] → All (SoundEntry (frame_of k.frame rs)) (jobsFrom i rs)
-  segments : (k : Known) → failing outside k rs ≡ [] → All SoundPiece (segmentsOf rs)
-  rising : (k : Known) (i : ℕ) → failing earlier k rs ≡ [] → Rising k.release (jobsFrom i rs)
-  chain : Proper p → (i : ℕ) → Chain (i + lacking p) (jobsFrom i rs) (i + length (segmentsOf rs))
+  frame_most : (k : Known) → failing outside k rs ≡ [] → k.frame ≤ 1000000 → frame_of k.frame rs ≤ 1000000
+  jobs : (k : Known) (i : ℕ) → failing outside k rs ≡ [] → All (SoundEntry (frame_of k.frame rs)) (jobs_from i rs)
+  segments : (k : Known) → failing outside k rs ≡ [] → All SoundPiece (segments_of rs)
+  rising : (k : Known) (i : ℕ) → failing earlier k rs ≡ [] → Rising k.release (jobs_from i rs)
+  chain : Proper p → (i : ℕ) → Chain (i + lacking p) (jobs_from i rs) (i + length (segments_of rs))
 
-keeps-base : (p : Place) → mayEnd p ≡ true → Keeps p []
-unfolding frame_of segmentsOf jobsFrom
-keeps-base p e = record {
+keeps_base : (p : Place) → may_end p ≡ true → Keeps p []
+unfolding frame_of segments_of jobs_from
+keeps_base p e = record {
   frame = λ h g. refl;
-  frame-most = λ k q h. h;
+  frame_most = λ k q h. h;
   jobs = λ k i q. tt;
   segments = λ k q. tt;
   rising = λ k i q. tt;
-  chain = λ h i. omega (arith, ended-lacks p e);
+  chain = λ h i. omega (arith, ended_lacks p e);
 }
 
-keeps-step : (p : Place) (at : ℕ) (s : List ℕ) (r : Record) (rs : List Placed) → recordAt p s ≡ Whole r → Keeps (placeAfter p r) rs → Keeps p (record { at = at; what = r } ∷ rs)
-unfolding frame_of segmentsOf jobsFrom failing
-keeps-step p at s (Frame f) rs e q = record {
-  frame = λ h g. absurd (no-frame p s f h e);
-  frame-most = λ k x h.
+keeps_step : (p : Place) (at : ℕ) (s : List ℕ) (r : Record) (rs : List Placed) → record_at p s ≡ Whole r → Keeps (place_after p r) rs → Keeps p (record { at = at; what = r } ∷ rs)
+unfolding frame_of segments_of jobs_from failing
+keeps_step p at s (Frame f) rs e q = record {
+  frame = λ h g. absurd (no_frame p s f h e);
+  frame_most = λ k x h.
       let (t, y) = passes (outside k (Frame f)) at _ x in
-      q.frame-most (learn k (Frame f)) y (ltb-false 1000000 f (neither (ltb f 1) (ltb 1000000 f) t).1);
+      q.frame_most (learn k (Frame f)) y (ltb-false 1000000 f (neither (ltb f 1) (ltb 1000000 f) t).1);
   jobs = λ k i x. q.jobs (learn k (Frame f)) (i + 0) (passes (outside k (Frame f)) at _ x).1;
   segments = λ k x. q.segments (learn k (Frame f)) (passes (outside k (Frame f)) at _ x).1;
   rising = λ k i x. q.rising (learn k (Frame f)) (i + 0) x;
-  chain = λ h i. chain_same (i + 0 + 0) (i + lacking p) (i + 0 + length (segmentsOf rs)) (i + length (segmentsOf rs)) (jobsFrom (i + 0) rs) (omega (arith, frame-lacks p s f e)) (omega arith) (q.chain tt (i + 0));
+  chain = λ h i. chain_same (i + 0 + 0) (i + lacking p) (i + 0 + length (segments_of rs)) (i + length (segments_of rs)) (jobs_from (i + 0) rs) (omega (arith, frame_lacks p s f e)) (omega arith) (q.chain tt (i + 0));
 }
-keeps-step p at s (Job a b m) rs e q = record {
-  frame = λ h g. q.frame (later-due m) g;
-  frame-most = λ k x h. q.frame-most (learn k (Job a b m)) (passes (outside k (Job a b m)) at _ x).1 h;
+keeps_step p at s (Job a b m) rs e q = record {
+  frame = λ h g. q.frame (later_due m) g;
+  frame_most = λ k x h. q.frame_most (learn k (Job a b m)) (passes (outside k (Job a b m)) at _ x).1 h;
   jobs = λ k i x.
       let (t, y) = passes (outside k (Job a b m)) at _ x in
-      (rw (q.frame (later-due m) k.frame) (sound-job k a b m t), q.jobs (learn k (Job a b m)) (i + 0) y);
+      (rw (q.frame (later_due m) k.frame) (sound_job k a b m t), q.jobs (learn k (Job a b m)) (i + 0) y);
   segments = λ k x. q.segments (learn k (Job a b m)) (passes (outside k (Job a b m)) at _ x).1;
   rising = λ k i x.
       let (t, y) = passes (earlier k (Job a b m)) at _ x in (ltb-false a k.release t, q.rising (learn k (Job a b m)) (i + 0) y);
   chain = λ h i. (
-    omega (arith, job-lacks p s a b m e),
-    chain_same (i + 0 + lacking (due m)) (i + lacking p + m) (i + 0 + length (segmentsOf rs)) (i + length (segmentsOf rs)) (jobsFrom (i + 0) rs) (omega (arith, job-lacks p s a b m e, lacking-due m)) (omega arith) (q.chain (proper-due m) (i + 0)),
+    omega (arith, job_lacks p s a b m e),
+    chain_same (i + 0 + lacking (due m)) (i + lacking p + m) (i + 0 + length (segments_of rs)) (i + length (segments_of rs)) (jobs_from (i + 0) rs) (omega (arith, job_lacks p s a b m e, lacking_due m)) (omega arith) (q.chain (proper_due m) (i + 0)),
   );
 }
-keeps-step p at s (Segment a b m) rs e q = record {
-  frame = λ h g. q.frame (later-due (lacking p - 1)) g;
-  frame-most = λ k x h. q.frame-most (learn k (Segment a b m)) (passes (outside k (Segment a b m)) at _ x).1 h;
+keeps_step p at s (Segment a b m) rs e q = record {
+  frame = λ h g. q.frame (later_due (lacking p - 1)) g;
+  frame_most = λ k x h. q.frame_most (learn k (Segment a b m)) (passes (outside k (Segment a b m)) at _ x).1 h;
   jobs = λ k i x. q.jobs (learn k (Segment a b m)) (i + 1) (passes (outside k (Segment a b m)) at _ x).1;
   segments = λ k x.
-      let (t, y) = passes (outside k (Segment a b m)) at _ x in (sound-segment k a b m t, q.segments (learn k (Segment a b m)) y);
+      let (t, y) = passes (outside k (Segment a b m)) at _ x in (sound_segment k a b m t, q.segments (learn k (Segment a b m)) y);
   rising = λ k i x. q.rising (learn k (Segment a b m)) (i + 1) x;
-  chain = λ h i. chain_same (i + 1 + lacking (due (lacking p - 1))) (i + lacking p) (i + 1 + length (segmentsOf rs)) (i + suc (length (segmentsOf rs))) (jobsFrom (i + 1) rs) (omega (arith, segment-lacks p s a b m h e, lacking-due (lacking p - 1))) (omega arith) (q.chain (proper-due (lacking p - 1)) (i + 1));
+  chain = λ h i. chain_same (i + 1 + lacking (due (lacking p - 1))) (i + lacking p) (i + 1 + length (segments_of rs)) (i + suc (length (segments_of rs))) (jobs_from (i + 1) rs) (omega (arith, segment_lacks p s a b m h e, lacking_due (lacking p - 1))) (omega arith) (q.chain (proper_due (lacking p - 1)) (i + 1));
 }
 
 -- ---- from lists of entries to the rows of the table
 
 -- of all entries, the one at an index
-all-at : {E : Type 0} (P : E → Type 0) (es : List E) (none : E) → All P es → (j : ℕ) → j < length es → P (get_or es j none)
-all-at P [] none a j h = absurd (omega arith)
-all-at P (e ∷ es) none a zero h = a.0
-all-at P (e ∷ es) none a (suc j) h = all-at P es none a.1 j (omega arith)
+all_at : {E : Type 0} (P : E → Type 0) (es : List E) (none : E) → All P es → (j : ℕ) → j < length es → P (get_or es j none)
+all_at P [] none a j h = absurd (omega arith)
+all_at P (e ∷ es) none a zero h = a.0
+all_at P (e ∷ es) none a (suc j) h = all_at P es none a.1 j (omega arith)
 
 get_d_map : {E : Type 0} (f : E → ℕ) (es : List E) (none : E) (j : ℕ) → j < length es → get_or (map f es) j 0 ≡ f (get_or es j none)
 get_d_map f [] none j h = absurd (omega arith)
@@ -226,19 +226,19 @@ get_d_map f (e ∷ es) none (suc j) h = get_d_map f es none j (omega arith)
 
 -- a row at an entry that the list has
 row : {E : Type 0} (n : ℕ) (f : E → ℕ) (es : List E) (none : E) → length es ≤ n → (j : ℕ) → j < length es → get_or (padded n (map f es)) j 0 ≡ f (get_or es j none)
-row n f es none l j h = getD-padded n (map f es) j (omega arith) ∙ get_d_map f es none j h
+row n f es none l j h = get_d_padded n (map f es) j (omega arith) ∙ get_d_map f es none j h
 
 nobody : JobEntry
 nobody = record { mark = 0; release = 0; base = 0; first = 0; count = 0 }
 
-nothing-held : SegmentEntry
-nothing-held = record { shortest = 0; longest = 0; held = 0 }
+nothing_held : SegmentEntry
+nothing_held = record { shortest = 0; longest = 0; held = 0 }
 
-rising-at : (r : ℕ) (es : List JobEntry) → Rising r es → (j : ℕ) → suc j < length es → (get_or es j nobody).release ≤ (get_or es (suc j) nobody).release
-rising-at r [] a j h = absurd (omega arith)
-rising-at r (e ∷ []) a j h = absurd (omega arith)
-rising-at r (e ∷ d ∷ es) a zero h = a.1.0
-rising-at r (e ∷ d ∷ es) a (suc j) h = rising-at e.release (d ∷ es) a.1 j (omega arith)
+rising_at : (r : ℕ) (es : List JobEntry) → Rising r es → (j : ℕ) → suc j < length es → (get_or es j nobody).release ≤ (get_or es (suc j) nobody).release
+rising_at r [] a j h = absurd (omega arith)
+rising_at r (e ∷ []) a j h = absurd (omega arith)
+rising_at r (e ∷ d ∷ es) a zero h = a.1.0
+rising_at r (e ∷ d ∷ es) a (suc j) h = rising_at e.release (d ∷ es) a.1 j (omega arith)
 
 chain_first : (i n : ℕ) (es : List JobEntry) → Chain i es n → 0 < length es → (get_or es 0 nobody).first ≡ i
 chain_first i n [] c h = absurd (omega arith)
@@ -250,12 +250,12 @@ chain_next i n (e ∷ []) c j h = absurd (omega arith)
 chain_next i n (e ∷ d ∷ es) c zero h = rw c.0 c.1.0
 chain_next i n (e ∷ d ∷ es) c (suc j) h = chain_next (i + e.count) n (d ∷ es) c.1 j (omega arith)
 
-chain-last : (i n : ℕ) (es : List JobEntry) → Chain i es n → (j : ℕ) → suc j ≡ length es → (get_or es j nobody).first + (get_or es j nobody).count ≡ n
-chain-last i n [] c j h = absurd (omega arith)
-chain-last i n (e ∷ []) c zero h = rw c.0 c.1
-chain-last i n (e ∷ []) c (suc j) h = absurd (omega arith)
-chain-last i n (e ∷ d ∷ es) c zero h = absurd (omega arith)
-chain-last i n (e ∷ d ∷ es) c (suc j) h = chain-last (i + e.count) n (d ∷ es) c.1 j (omega arith)
+chain_last : (i n : ℕ) (es : List JobEntry) → Chain i es n → (j : ℕ) → suc j ≡ length es → (get_or es j nobody).first + (get_or es j nobody).count ≡ n
+chain_last i n [] c j h = absurd (omega arith)
+chain_last i n (e ∷ []) c zero h = rw c.0 c.1
+chain_last i n (e ∷ []) c (suc j) h = absurd (omega arith)
+chain_last i n (e ∷ d ∷ es) c zero h = absurd (omega arith)
+chain_last i n (e ∷ d ∷ es) c (suc j) h = chain_last (i + e.count) n (d ∷ es) c.1 j (omega arith)
 
 -- ---- the table
 
@@ -264,48 +264,48 @@ module _ (s : List ℕ) (z : (refusal s).number ≡ 0) where
   rs = (reading_of s).records
 
   abbrev js : List JobEntry
-  js = jobsOf rs
+  js = jobs_of rs
 
   abbrev ss : List SegmentEntry
-  ss = segmentsOf rs
+  ss = segments_of rs
 
   keeps : Keeps First (reading_of s).records
   unfolding reading_of
-  keeps = each (λ p at s rs. Keeps p rs) (λ p at s. keeps-base p) keeps-step (length s) First 0 s (accepted s z).whole
+  keeps = each (λ p at s rs. Keeps p rs) (λ p at s. keeps_base p) keeps_step (length s) First 0 s (accepted s z).whole
 
   chain : Chain 0 js (length ss)
   chain = chain_same (0 + 0) 0 (0 + length ss) (length ss) js (omega arith) (omega arith) (keeps.chain tt 0)
 
   -- the rows of the jobs and of the segments
-  job-row : (f : JobEntry → ℕ) (j : ℕ) → j < length js → get_or (padded 32 (map f js)) j 0 ≡ f (get_or js j nobody)
-  job-row f j h = row 32 f js nobody (table-room s z).0 j h
+  job_row : (f : JobEntry → ℕ) (j : ℕ) → j < length js → get_or (padded 32 (map f js)) j 0 ≡ f (get_or js j nobody)
+  job_row f j h = row 32 f js nobody (table_room s z).0 j h
 
-  segment-row : (f : SegmentEntry → ℕ) (j : ℕ) → j < length ss → get_or (padded 64 (map f ss)) j 0 ≡ f (get_or ss j nothing-held)
-  segment-row f j h = row 64 f ss nothing-held (table-room s z).1 j h
+  segment_row : (f : SegmentEntry → ℕ) (j : ℕ) → j < length ss → get_or (padded 64 (map f ss)) j 0 ≡ f (get_or ss j nothing_held)
+  segment_row f j h = row 64 f ss nothing_held (table_room s z).1 j h
 
-  some-job : 0 < length js
-  some-job = let d = (accepted s z).some in omega arith
+  some_job : 0 < length js
+  some_job = let d = (accepted s z).some in omega arith
 
-  sound-rows : Sound (recorded rs)
-  unfolding recorded tableFrom
-  sound-rows = record {
-    jobs-some = some-job;
-    jobs-most = (table-room s z).0;
-    segments-most = (table-room s z).1;
-    frame-most = keeps.frame-most nothing (accepted s z).bounds (omega arith);
-    job = λ j h. rw (job-row (λ (e : JobEntry). e.release) j h, job-row (λ (e : JobEntry). e.base) j h, job-row (λ (e : JobEntry). e.count) j h)
-        (all-at (SoundEntry (frame_of 0 rs)) js nobody (keeps.jobs nothing 0 (accepted s z).bounds) j h);
-    segment = λ k h. rw (segment-row (λ (e : SegmentEntry). e.shortest) k h, segment-row (λ (e : SegmentEntry). e.longest) k h)
-        (all-at SoundPiece ss nothing-held (keeps.segments nothing (accepted s z).bounds) k h);
-    order = λ j h. rw (job-row (λ (e : JobEntry). e.release) j (omega arith), job-row (λ (e : JobEntry). e.release) (suc j) h)
-        (rising-at 0 js (keeps.rising nothing 0 (accepted s z).order) j h);
-    first = job-row (λ (e : JobEntry). e.first) 0 some-job ∙ chain_first 0 (length ss) js chain some-job;
-    next = λ j h. rw (job-row (λ (e : JobEntry). e.first) (suc j) h, job-row (λ (e : JobEntry). e.first) j (omega arith), job-row (λ (e : JobEntry). e.count) j (omega arith))
+  sound_rows : Sound (recorded rs)
+  unfolding recorded table_from
+  sound_rows = record {
+    jobs_some = some_job;
+    jobs_most = (table_room s z).0;
+    segments_most = (table_room s z).1;
+    frame_most = keeps.frame_most nothing (accepted s z).bounds (omega arith);
+    job = λ j h. rw (job_row (λ (e : JobEntry). e.release) j h, job_row (λ (e : JobEntry). e.base) j h, job_row (λ (e : JobEntry). e.count) j h)
+        (all_at (SoundEntry (frame_of 0 rs)) js nobody (keeps.jobs nothing 0 (accepted s z).bounds) j h);
+    segment = λ k h. rw (segment_row (λ (e : SegmentEntry). e.shortest) k h, segment_row (λ (e : SegmentEntry). e.longest) k h)
+        (all_at SoundPiece ss nothing_held (keeps.segments nothing (accepted s z).bounds) k h);
+    order = λ j h. rw (job_row (λ (e : JobEntry). e.release) j (omega arith), job_row (λ (e : JobEntry). e.release) (suc j) h)
+        (rising_at 0 js (keeps.rising nothing 0 (accepted s z).order) j h);
+    first = job_row (λ (e : JobEntry). e.first) 0 some_job ∙ chain_first 0 (length ss) js chain some_job;
+    next = λ j h. rw (job_row (λ (e : JobEntry). e.first) (suc j) h, job_row (λ (e : JobEntry). e.first) j (omega arith), job_row (λ (e : JobEntry). e.count) j (omega arith))
         (chain_next 0 (length ss) js chain j h);
-    last = λ j h. rw (job-row (λ (e : JobEntry). e.first) j (omega arith), job-row (λ (e : JobEntry). e.count) j (omega arith))
-        (chain-last 0 (length ss) js chain j h);
+    last = λ j h. rw (job_row (λ (e : JobEntry). e.first) j (omega arith), job_row (λ (e : JobEntry). e.count) j (omega arith))
+        (chain_last 0 (length ss) js chain j h);
   }
 
 -- for a caller of `Table::read`
-pub sound-outcome : (s : List ℕ) (o : Outcome) → o ≡ outcomeOf s → o.refusal ≡ 0 → Sound o.table
-sound-outcome s o e z = rw (table_is s o e z) (sound-rows s (sym (refusal_is s o e) ∙ z))
+pub sound_outcome : (s : List ℕ) (o : Outcome) → o ≡ outcome_of s → o.refusal ≡ 0 → Sound o.table
+sound_outcome s o e z = rw (table_is s o e z) (sound_rows s (sym (refusal_is s o e) ∙ z))

@@ -9,10 +9,10 @@ use borrow.Author.Rules.{part_to_end}
 use lib.Seq.{drop-drop}
 use lib.Dec.{leb, eqb}
 use borrow.Author.Tests.{leb-true, eq-eqb, ne_eqb}
-use Rattle.table.specs.Records.{le2, sized, marked, recordAt, size_of, placeAfter, mayEnd, Placed, Reading, atEnd, ahead, goesOn, readFrom, reading_of}
+use Rattle.table.specs.Records.{le2, sized, marked, record_at, size_of, place_after, may_end, Placed, Reading, at_end, ahead, goes_on, read_from, reading_of}
 use Rattle.table.specs.Table.{recorded}
 use Rattle.table.specs.Refusal.{nothing, learn}
-use Rattle.table.specs.Steps.{added, known_by, known_of, scanned, scanOf, endedAt}
+use Rattle.table.specs.Steps.{added, known_by, known_of, scanned, scan_of, ended_at}
 use Rattle.table.specs.declared.Table.{Table}
 use Rattle.table.specs.declared.scan.Scan.{Scan}
 use Rattle.table.specs.declared.scan.Known.{Known}
@@ -22,12 +22,12 @@ use Rattle.table.specs.declared.records.Record.{Record}
 use Rattle.table.specs.declared.records.Record.TheVariants.{Frame, Job, Segment}
 use Rattle.table.specs.declared.records.Answer.{Answer}
 use Rattle.table.specs.declared.records.Answer.TheVariants.{Whole, Refused}
-use Rattle.table.proofs.Fold.{known-snoc, known-by, table-snoc, scan-snoc}
+use Rattle.table.proofs.Fold.{known_snoc, known_by_lem, table_snoc, scan_snoc}
 
 -- a record that is read is the one that its mark selects, and all its bytes are there
-pub marked-whole : (s : List ℕ) (m n : ℕ) (r' r : Record) → marked s m n r' ≡ Whole r → (r' ≡ r) × (n ≤ length s)
+pub marked_whole : (s : List ℕ) (m n : ℕ) (r' r : Record) → marked s m n r' ≡ Whole r → (r' ≡ r) × (n ≤ length s)
 unfolding marked sized
-marked-whole s m n r' r e = go (leb 2 (length s)) (eqb (le2 s 0) m) (leb n (length s)) refl e
+marked_whole s m n r' r e = go (leb 2 (length s)) (eqb (le2 s 0) m) (leb n (length s)) refl e
   where
     never : {A : Type 0} → Refused 1 ≡ Whole r → A
     never q = absurd (let z : ◌≡◌ {A = ℕ} 0 1 = cc in omega arith)
@@ -38,52 +38,52 @@ marked-whole s m n r' r e = go (leb 2 (length s)) (eqb (le2 s 0) m) (leb n (leng
     go true false d h q = never q
     go false b d h q = never q
 
-pub record-fits : (p : Place) (s : List ℕ) (r : Record) → recordAt p s ≡ Whole r → size_of r ≤ length s
-unfolding recordAt
-record-fits First s r e = let h = marked-whole s _ _ _ r e in rw (← h.0) h.1
-record-fits Next s r e = let h = marked-whole s _ _ _ r e in rw (← h.0) h.1
-record-fits (Within n) s r e = let h = marked-whole s _ _ _ r e in rw (← h.0) h.1
+pub record_fits : (p : Place) (s : List ℕ) (r : Record) → record_at p s ≡ Whole r → size_of r ≤ length s
+unfolding record_at
+record_fits First s r e = let h = marked_whole s _ _ _ r e in rw (← h.0) h.1
+record_fits Next s r e = let h = marked_whole s _ _ _ r e in rw (← h.0) h.1
+record_fits (Within n) s r e = let h = marked_whole s _ _ _ r e in rw (← h.0) h.1
 
-pub size-pos : (r : Record) → 0 < size_of r
-size-pos (Frame f) = omega arith
-size-pos (Job r b n) = omega arith
-size-pos (Segment l h m) = omega arith
+pub size_pos : (r : Record) → 0 < size_of r
+size_pos (Frame f) = omega arith
+size_pos (Job r b n) = omega arith
+size_pos (Segment l h m) = omega arith
 
-pub size-le : (r : Record) → size_of r ≤ 12
-size-le (Frame f) = omega arith
-size-le (Job r b n) = omega arith
-size-le (Segment l h m) = omega arith
+pub size_le : (r : Record) → size_of r ≤ 12
+size_le (Frame f) = omega arith
+size_le (Job r b n) = omega arith
+size_le (Segment l h m) = omega arith
 
 -- a record counts for no more jobs or segments than it has bytes
-learn-less : (k : Known) (r : Record) → ((learn k r).jobs ≤ k.jobs + size_of r) × ((learn k r).segments ≤ k.segments + size_of r)
-learn-less k (Frame f) = (omega arith, omega arith)
-learn-less k (Job r b n) = (omega arith, omega arith)
-learn-less k (Segment l h m) = (omega arith, omega arith)
+learn_less : (k : Known) (r : Record) → ((learn k r).jobs ≤ k.jobs + size_of r) × ((learn k r).segments ≤ k.segments + size_of r)
+learn_less k (Frame f) = (omega arith, omega arith)
+learn_less k (Job r b n) = (omega arith, omega arith)
+learn_less k (Segment l h m) = (omega arith, omega arith)
 
 -- one step of the reading, and its two ends
-read_step : (n : ℕ) (p : Place) (at : ℕ) (s : List ℕ) (r : Record) → 0 < length s → recordAt p s ≡ Whole r
-    → readFrom (suc n) p at s ≡ ahead (record { at = at; what = r }) (readFrom n (placeAfter p r) (at + size_of r) (drop (size_of r) s))
-unfolding readFrom goesOn
+read_step : (n : ℕ) (p : Place) (at : ℕ) (s : List ℕ) (r : Record) → 0 < length s → record_at p s ≡ Whole r
+    → read_from (suc n) p at s ≡ ahead (record { at = at; what = r }) (read_from n (place_after p r) (at + size_of r) (drop (size_of r) s))
+unfolding read_from goes_on
 read_step n p at s r h e = rw (ne_eqb (length s) 0 (λ q. omega arith), e)
 
-read-cut : (n : ℕ) (p : Place) (at : ℕ) (s : List ℕ) (k : ℕ) → 0 < length s → length s ≤ n → recordAt p s ≡ Refused k
-    → readFrom n p at s ≡ record { records = []; whole = false; stop = at }
-unfolding readFrom goesOn
-read-cut zero p at s k h l e = absurd (omega arith)
-read-cut (suc n) p at s k h l e = rw (ne_eqb (length s) 0 (λ q. omega arith), e)
+read_cut : (n : ℕ) (p : Place) (at : ℕ) (s : List ℕ) (k : ℕ) → 0 < length s → length s ≤ n → record_at p s ≡ Refused k
+    → read_from n p at s ≡ record { records = []; whole = false; stop = at }
+unfolding read_from goes_on
+read_cut zero p at s k h l e = absurd (omega arith)
+read_cut (suc n) p at s k h l e = rw (ne_eqb (length s) 0 (λ q. omega arith), e)
 
-read-end : (n : ℕ) (p : Place) (at : ℕ) (s : List ℕ) → length s ≡ 0 → readFrom n p at s ≡ atEnd p at
-unfolding readFrom
-read-end zero p at s h = refl
-read-end (suc n) p at s h = rw (eq-eqb (length s) 0 h)
+read_end : (n : ℕ) (p : Place) (at : ℕ) (s : List ℕ) → length s ≡ 0 → read_from n p at s ≡ at_end p at
+unfolding read_from
+read_end zero p at s h = refl
+read_end (suc n) p at s h = rw (eq-eqb (length s) 0 h)
 
 -- records that were read before others
 pub behind : List Placed → Reading → Reading
 behind xs x = record { records = xs ++ x.records; whole = x.whole; stop = x.stop }
 
-behind-ahead : (xs : List Placed) (r : Placed) (x : Reading) → behind xs (ahead r x) ≡ behind (xs ++ r ∷ []) x
+behind_ahead : (xs : List Placed) (r : Placed) (x : Reading) → behind xs (ahead r x) ≡ behind (xs ++ r ∷ []) x
 unfolding behind ahead
-behind-ahead xs r x = λ i. record { records = sym (append_assoc xs (r ∷ []) x.records) i; whole = x.whole; stop = x.stop }
+behind_ahead xs r x = λ i. record { records = sym (append_assoc xs (r ∷ []) x.records) i; whole = x.whole; stop = x.stop }
 
 -- what the loop keeps: at a place, the records so far, and that what is read from there on completes the reading
 pub record Went (s : List ℕ) (t : Table) (x : Scan) (p : Place) (at : ℕ) : Type 0 where
@@ -91,32 +91,32 @@ pub record Went (s : List ℕ) (t : Table) (x : Scan) (p : Place) (at : ℕ) : T
   pub left : ℕ
   pub inside : at ≤ length s
   pub enough : length s - at ≤ left
-  pub few-jobs : (known_of nothing done).jobs ≤ at
-  pub few-segments : (known_of nothing done).segments ≤ at
+  pub few_jobs : (known_of nothing done).jobs ≤ at
+  pub few_segments : (known_of nothing done).segments ≤ at
   pub table : t ≡ recorded done
-  pub scan : x ≡ scanOf done
-  pub reading : reading_of s ≡ behind done (readFrom left p at (drop at s))
+  pub scan : x ≡ scan_of done
+  pub reading : reading_of s ≡ behind done (read_from left p at (drop at s))
 
-pub start : (s : List ℕ) (t : Table) (x : Scan) → t ≡ recorded [] → x ≡ scanOf [] → Went s t x First 0
+pub start : (s : List ℕ) (t : Table) (x : Scan) → t ≡ recorded [] → x ≡ scan_of [] → Went s t x First 0
 unfolding reading_of behind known_of
 start s t x e f = record {
   done = [];
   left = length s;
   inside = omega arith;
   enough = omega arith;
-  few-jobs = omega arith;
-  few-segments = omega arith;
+  few_jobs = omega arith;
+  few_segments = omega arith;
   table = e;
   scan = f;
   reading = refl;
 }
 
 -- what is known before a record
-known-here : {s : List ℕ} {t : Table} {x : Scan} {p : Place} {at : ℕ} (w : Went s t x p at) → known_by t x.release ≡ known_of nothing w.done
-known-here w = rw (w.table, w.scan) (known-by w.done)
+known_here : {s : List ℕ} {t : Table} {x : Scan} {p : Place} {at : ℕ} (w : Went s t x p at) → known_by t x.release ≡ known_of nothing w.done
+known_here w = rw (w.table, w.scan) (known_by_lem w.done)
 
-pub step : {s : List ℕ} {t : Table} {x : Scan} {p : Place} {at : ℕ} (r : Record) → Went s t x p at → at < length s → recordAt p (drop at s) ≡ Whole r
-    → Went s (added t at r) (scanned x (known_by t x.release) at r) (placeAfter p r) (at + size_of r)
+pub step : {s : List ℕ} {t : Table} {x : Scan} {p : Place} {at : ℕ} (r : Record) → Went s t x p at → at < length s → record_at p (drop at s) ≡ Whole r
+    → Went s (added t at r) (scanned x (known_by t x.release) at r) (place_after p r) (at + size_of r)
 step {s} {t} {x} {p} {at} r w h e = go w.left w.enough w.reading
   where
     new : Placed
@@ -126,49 +126,49 @@ step {s} {t} {x} {p} {at} r w h e = go w.left w.enough w.reading
     room = length-drop at s
 
     fits : size_of r ≤ length s - at
-    fits = rw (← room) (record-fits p (drop at s) r e)
+    fits = rw (← room) (record_fits p (drop at s) r e)
 
     told : known_of nothing (w.done ++ new ∷ []) ≡ learn (known_of nothing w.done) r
-    told = known-snoc nothing w.done new
+    told = known_snoc nothing w.done new
 
-    go : (n : ℕ) → length s - at ≤ n → reading_of s ≡ behind w.done (readFrom n p at (drop at s))
-        → Went s (added t at r) (scanned x (known_by t x.release) at r) (placeAfter p r) (at + size_of r)
+    go : (n : ℕ) → length s - at ≤ n → reading_of s ≡ behind w.done (read_from n p at (drop at s))
+        → Went s (added t at r) (scanned x (known_by t x.release) at r) (place_after p r) (at + size_of r)
     go zero l q = absurd (omega arith)
     go (suc n) l q = record {
       done = w.done ++ new ∷ [];
       left = n;
       inside = omega (arith, fits);
-      enough = omega (arith, size-pos r);
-      few-jobs = omega (arith, ap (λ (k : Known). k.jobs) told, (learn-less (known_of nothing w.done) r).0, w.few-jobs);
-      few-segments = omega (arith, ap (λ (k : Known). k.segments) told, (learn-less (known_of nothing w.done) r).1, w.few-segments);
-      table = rw w.table (table-snoc w.done at r);
-      scan = ap (λ (k : Known). scanned x k at r) (known-here w) ∙ rw w.scan (scan-snoc w.done at r);
+      enough = omega (arith, size_pos r);
+      few_jobs = omega (arith, ap (λ (k : Known). k.jobs) told, (learn_less (known_of nothing w.done) r).0, w.few_jobs);
+      few_segments = omega (arith, ap (λ (k : Known). k.segments) told, (learn_less (known_of nothing w.done) r).1, w.few_segments);
+      table = rw w.table (table_snoc w.done at r);
+      scan = ap (λ (k : Known). scanned x k at r) (known_here w) ∙ rw w.scan (scan_snoc w.done at r);
       reading =
-          q ∙ ap (behind w.done) (read_step n p at (drop at s) r (omega (arith, room)) e) ∙ behind-ahead w.done new _
-          ∙ ap (λ (l : List ℕ). behind (w.done ++ new ∷ []) (readFrom n (placeAfter p r) (at + size_of r) l)) (drop-drop (size_of r) at s);
+          q ∙ ap (behind w.done) (read_step n p at (drop at s) r (omega (arith, room)) e) ∙ behind_ahead w.done new _
+          ∙ ap (λ (l : List ℕ). behind (w.done ++ new ∷ []) (read_from n (place_after p r) (at + size_of r) l)) (drop-drop (size_of r) at s);
     }
 
 -- the end of the bytes
-pub finish : {s : List ℕ} {t : Table} {x : Scan} {p : Place} {at : ℕ} (w : Went s t x p at) → length s ≤ at → reading_of s ≡ endedAt w.done p at
-unfolding behind endedAt
+pub finish : {s : List ℕ} {t : Table} {x : Scan} {p : Place} {at : ℕ} (w : Went s t x p at) → length s ≤ at → reading_of s ≡ ended_at w.done p at
+unfolding behind ended_at
 finish {s} {t} {x} {p} {at} w h =
-    w.reading ∙ ap (behind w.done) (read-end w.left p at (drop at s) (length-drop at s ∙ omega arith))
-    ∙ (λ i. record { records = append-nil w.done i; whole = mayEnd p; stop = at })
+    w.reading ∙ ap (behind w.done) (read_end w.left p at (drop at s) (length-drop at s ∙ omega arith))
+    ∙ (λ i. record { records = append-nil w.done i; whole = may_end p; stop = at })
 
 -- a record that cannot be read
-pub stop : {s : List ℕ} {t : Table} {x : Scan} {p : Place} {at : ℕ} (k : ℕ) (w : Went s t x p at) → at < length s → recordAt p (drop at s) ≡ Refused k
+pub stop : {s : List ℕ} {t : Table} {x : Scan} {p : Place} {at : ℕ} (k : ℕ) (w : Went s t x p at) → at < length s → record_at p (drop at s) ≡ Refused k
     → ((reading_of s).whole ≡ false) × ((reading_of s).stop ≡ at)
 unfolding behind
 stop {s} {t} {x} {p} {at} k w h e =
     let q : reading_of s ≡ behind w.done (record { records = []; whole = false; stop = at })
-    = w.reading ∙ ap (behind w.done) (read-cut w.left p at (drop at s) k (rw (length-drop at s) (omega arith)) (rw (length-drop at s) w.enough) e) in
+    = w.reading ∙ ap (behind w.done) (read_cut w.left p at (drop at s) k (rw (length-drop at s) (omega arith)) (rw (length-drop at s) w.enough) e) in
     (ap (λ (y : Reading). y.whole) q, ap (λ (y : Reading). y.stop) q)
 
 -- the counts stay small
 pub small : {s : List ℕ} {t : Table} {x : Scan} {p : Place} {at : ℕ} (w : Went s t x p at) → at < length s → length s ≤ 4096 → (t.jobs < 4096) × (t.segments < 4096)
 small {s} {t} {x} {p} {at} w h l =
-    (omega (arith, ap (λ (k : Known). k.jobs) (known-here w), w.few-jobs), omega (arith, ap (λ (k : Known). k.segments) (known-here w), w.few-segments))
+    (omega (arith, ap (λ (k : Known). k.jobs) (known_here w), w.few_jobs), omega (arith, ap (λ (k : Known). k.segments) (known_here w), w.few_segments))
 
 -- what the record's reader answered of the part that it was handed
-pub told : (s : List ℕ) (at : ℕ) (p : Place) (a b : Answer) → a ≡ recordAt p (take (length s - at) (drop at s)) → a ≡ b → recordAt p (drop at s) ≡ b
-told s at p a b e f = ap (recordAt p) (sym (part_to_end s at)) ∙ sym e ∙ f
+pub told : (s : List ℕ) (at : ℕ) (p : Place) (a b : Answer) → a ≡ record_at p (take (length s - at) (drop at s)) → a ≡ b → record_at p (drop at s) ≡ b
+told s at p a b e f = ap (record_at p) (sym (part_to_end s at)) ∙ sym e ∙ f

@@ -18,11 +18,11 @@ le4 s i = get_or s i 0 + 256 * get_or s (i + 1) 0 + 65536 * get_or s (i + 2) 0 +
 abbrev pub frame_at : List ℕ → Record
 frame_at s = Frame (le4 s 2)
 
-abbrev pub jobAt : List ℕ → Record
-jobAt s = Job (le4 s 2) (get_or s 6 0) (get_or s 7 0)
+abbrev pub job_at : List ℕ → Record
+job_at s = Job (le4 s 2) (get_or s 6 0) (get_or s 7 0)
 
-abbrev pub segmentAt : List ℕ → Record
-segmentAt s = Segment (le4 s 2) (le4 s 6) (le2 s 10)
+abbrev pub segment_at : List ℕ → Record
+segment_at s = Segment (le4 s 2) (le4 s 6) (le2 s 10)
 
 -- the record, where s has all its bytes; else refusal 1
 unfoldable pub sized : List ℕ → ℕ → Record → Answer
@@ -33,10 +33,10 @@ unfoldable pub marked : List ℕ → ℕ → ℕ → Record → Answer
 marked s mark size r = cond (leb 2 (length s)) (cond (eqb (le2 s 0) mark) (sized s size r) (Refused 1)) (Refused 1)
 
 -- the record that stands at the start of s, by the place: FR (46 52) where the table starts, JB (4A 42) where a job may start, SG (53 47) where a job still lacks segments
-unfoldable pub recordAt : Place → List ℕ → Answer
-recordAt First s = marked s 0x5246 6 (frame_at s)
-recordAt Next s = marked s 0x424a 8 (jobAt s)
-recordAt (Within n) s = marked s 0x4753 12 (segmentAt s)
+unfoldable pub record_at : Place → List ℕ → Answer
+record_at First s = marked s 0x5246 6 (frame_at s)
+record_at Next s = marked s 0x424a 8 (job_at s)
+record_at (Within n) s = marked s 0x4753 12 (segment_at s)
 
 -- the bytes of a record, with its mark
 abbrev pub size_of : Record → ℕ
@@ -53,16 +53,16 @@ lacking First = 0
 lacking Next = 0
 lacking (Within n) = n
 
-abbrev pub placeAfter : Place → Record → Place
-placeAfter p (Frame f) = Next
-placeAfter p (Job r b n) = due n
-placeAfter p (Segment l h m) = due (lacking p - 1)
+abbrev pub place_after : Place → Record → Place
+place_after p (Frame f) = Next
+place_after p (Job r b n) = due n
+place_after p (Segment l h m) = due (lacking p - 1)
 
 -- a table may end only where a job might start
-abbrev pub mayEnd : Place → Bool
-mayEnd First = false
-mayEnd Next = true
-mayEnd (Within n) = false
+abbrev pub may_end : Place → Bool
+may_end First = false
+may_end Next = true
+may_end (Within n) = false
 
 -- a record, and the place of its mark in the bytes
 pub record Placed : Type 0 where
@@ -76,22 +76,22 @@ pub record Reading : Type 0 where
   pub stop : ℕ
 
 -- the bytes are at their end, where `p` is due at `at`
-abbrev pub atEnd : Place → ℕ → Reading
-atEnd p at = record { records = []; whole = mayEnd p; stop = at }
+abbrev pub at_end : Place → ℕ → Reading
+at_end p at = record { records = []; whole = may_end p; stop = at }
 
 unfoldable pub ahead : Placed → Reading → Reading
 ahead r x = record { records = r ∷ x.records; whole = x.whole; stop = x.stop }
 
 -- a record that cannot be read ends the reading there
-unfoldable pub goesOn : (Place → ℕ → List ℕ → Reading) → Place → ℕ → List ℕ → Answer → Reading
-goesOn rest p at s (Whole r) = ahead (record { at = at; what = r }) (rest (placeAfter p r) (at + size_of r) (drop (size_of r) s))
-goesOn rest p at s (Refused n) = record { records = []; whole = false; stop = at }
+unfoldable pub goes_on : (Place → ℕ → List ℕ → Reading) → Place → ℕ → List ℕ → Answer → Reading
+goes_on rest p at s (Whole r) = ahead (record { at = at; what = r }) (rest (place_after p r) (at + size_of r) (drop (size_of r) s))
+goes_on rest p at s (Refused n) = record { records = []; whole = false; stop = at }
 
 -- the reading from `at` on, where s are the bytes from there on; n is any number that is not below their length
-unfoldable pub readFrom : ℕ → Place → ℕ → List ℕ → Reading
-readFrom zero p at s = atEnd p at
-readFrom (suc n) p at s = cond (eqb (length s) 0) (atEnd p at) (goesOn (readFrom n) p at s (recordAt p s))
+unfoldable pub read_from : ℕ → Place → ℕ → List ℕ → Reading
+read_from zero p at s = at_end p at
+read_from (suc n) p at s = cond (eqb (length s) 0) (at_end p at) (goes_on (read_from n) p at s (record_at p s))
 
 -- the reading of a table
 unfoldable pub reading_of : List ℕ → Reading
-reading_of s = readFrom (length s) First 0 s
+reading_of s = read_from (length s) First 0 s

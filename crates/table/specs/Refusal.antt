@@ -1,8 +1,8 @@
 -- Refusals 1 to 4 (paper 01, 'Numbers returned when a call declines'): of each, the places where it arises; and what reading a table answers.
 use Rattle.std.specs.Prelude.{ℕ, ◌+◌, List, [], ◌∷◌, ◌++◌, Bool, true, false, cond, ◌||◌, length, ltb, leb, eqb}
-use Rattle.table.specs.Limits.{most_bytes, most-jobs, most-segments, most-ticks, most-base, most-count}
+use Rattle.table.specs.Limits.{most_bytes, most_jobs, most_segments, most_ticks, most_base, most_count}
 use Rattle.table.specs.Records.{Placed, Reading, reading_of}
-use Rattle.table.specs.Table.{jobsOf, recorded}
+use Rattle.table.specs.Table.{jobs_of, recorded}
 use Rattle.table.specs.declared.Outcome.{Outcome}
 use Rattle.table.specs.declared.Table.{Table}
 use Rattle.table.specs.declared.scan.Known.{Known}
@@ -23,9 +23,9 @@ learn k (Segment l h m) = record { frame = k.frame; release = k.release; jobs = 
 
 -- a number outside its bounds: frame 1 to 1,000,000; release 0 to frame - 1; base priority 1 to 200; 1 to 8 segments; 1 ≤ shortest ≤ longest ≤ 1,000,000
 abbrev pub outside : Known → Record → Bool
-outside k (Frame f) = ltb f 1 || ltb most-ticks f
-outside k (Job r b n) = leb k.frame r || ltb b 1 || ltb most-base b || ltb n 1 || ltb most-count n
-outside k (Segment l h m) = ltb l 1 || ltb h l || ltb most-ticks h
+outside k (Frame f) = ltb f 1 || ltb most_ticks f
+outside k (Job r b n) = leb k.frame r || ltb b 1 || ltb most_base b || ltb n 1 || ltb most_count n
+outside k (Segment l h m) = ltb l 1 || ltb h l || ltb most_ticks h
 
 -- a job released earlier than the job before it
 abbrev pub earlier : Known → Record → Bool
@@ -36,8 +36,8 @@ earlier k (Segment l h m) = false
 -- a job after 32 jobs, or a segment after 64 segments
 abbrev pub beyond : Known → Record → Bool
 beyond k (Frame f) = false
-beyond k (Job r b n) = leb most-jobs k.jobs
-beyond k (Segment l h m) = leb most-segments k.segments
+beyond k (Job r b n) = leb most_jobs k.jobs
+beyond k (Segment l h m) = leb most_segments k.segments
 
 -- this place, if there is cause
 abbrev pub when : Bool → ℕ → List ℕ
@@ -56,16 +56,16 @@ abbrev pub unread : Reading → List ℕ
 unread x = cond x.whole [] (x.stop ∷ [])
 
 -- 2: a frame length, release, priority, segment count of a JB, shortest or longest outside its bounds
-abbrev pub outOfBounds : List Placed → List ℕ
-outOfBounds rs = failing outside nothing rs
+abbrev pub out_of_bounds : List Placed → List ℕ
+out_of_bounds rs = failing outside nothing rs
 
 -- 3: a job released earlier than the job before it
-abbrev pub outOfOrder : List Placed → List ℕ
-outOfOrder rs = failing earlier nothing rs
+abbrev pub out_of_order : List Placed → List ℕ
+out_of_order rs = failing earlier nothing rs
 
 -- 4: no job (that is seen at the end of the bytes), more than 32 jobs, or more than 64 segments
 abbrev pub crowded : ℕ → List Placed → List ℕ
-crowded end rs = when (eqb (length (jobsOf rs)) 0) end ++ failing beyond nothing rs
+crowded end rs = when (eqb (length (jobs_of rs)) 0) end ++ failing beyond nothing rs
 
 -- a refusal: its number, and the place where it arose first
 pub record Refusal : Type 0 where
@@ -78,22 +78,22 @@ or_else n [] later = later
 or_else n (at ∷ ats) later = record { number = n; place = at }
 
 -- the lowest that applies to a reading of so many bytes; 2 to 4 only where it is whole
-unfoldable pub refusalIn : ℕ → Reading → Refusal
-refusalIn end x =
+unfoldable pub refusal_in : ℕ → Reading → Refusal
+refusal_in end x =
     or_else 1 (unread x)
-    (or_else 2 (outOfBounds x.records) (or_else 3 (outOfOrder x.records) (or_else 4 (crowded end x.records) (record { number = 0; place = 0 }))))
+    (or_else 2 (out_of_bounds x.records) (or_else 3 (out_of_order x.records) (or_else 4 (crowded end x.records) (record { number = 0; place = 0 }))))
 
 -- the refusal of a table: 1 also for more than 4,096 bytes
 unfoldable pub refusal : List ℕ → Refusal
-refusal s = cond (ltb most_bytes (length s)) (record { number = 1; place = most_bytes }) (refusalIn (length s) (reading_of s))
+refusal s = cond (ltb most_bytes (length s)) (record { number = 1; place = most_bytes }) (refusal_in (length s) (reading_of s))
 
 -- what reading answers, where the records say the table t: with a refusal the table of no record
 unfoldable pub answer : Refusal → Table → Outcome
 answer n t = record { refusal = n.number; place = n.place; table = cond (eqb n.number 0) t (recorded []) }
 
-unfoldable pub outcomeOf : List ℕ → Outcome
-outcomeOf s = answer (refusal s) (recorded (reading_of s).records)
+unfoldable pub outcome_of : List ℕ → Outcome
+outcome_of s = answer (refusal s) (recorded (reading_of s).records)
 
 -- the table that the bytes say
 abbrev pub table_of : List ℕ → Table
-table_of s = (outcomeOf s).table
+table_of s = (outcome_of s).table

@@ -1,6 +1,6 @@
 -- What the records of a table say: its jobs and its segments in table order, and the table that holds them.
 use Rattle.std.specs.Prelude.{ℕ, zero, suc, ◌+◌, List, [], ◌∷◌, ◌++◌, map, length}
-use Rattle.table.specs.Limits.{most-jobs, most-segments}
+use Rattle.table.specs.Limits.{most_jobs, most_segments}
 use Rattle.table.specs.Records.{Placed}
 use Rattle.table.specs.declared.Table.{Table}
 use Rattle.table.specs.declared.records.Record.{Record}
@@ -20,36 +20,36 @@ pub record SegmentEntry : Type 0 where
   pub held : ℕ
 
 -- the segment, the job and the frame length that a record gives; k segments come before it
-abbrev pub segmentIn : Record → List SegmentEntry
-segmentIn (Frame f) = []
-segmentIn (Job r b n) = []
-segmentIn (Segment l h m) = record { shortest = l; longest = h; held = m } ∷ []
+abbrev pub segment_in : Record → List SegmentEntry
+segment_in (Frame f) = []
+segment_in (Job r b n) = []
+segment_in (Segment l h m) = record { shortest = l; longest = h; held = m } ∷ []
 
-abbrev pub jobIn : (at k : ℕ) → Record → List JobEntry
-jobIn at k (Frame f) = []
-jobIn at k (Job r b n) = record { mark = at; release = r; base = b; first = k; count = n } ∷ []
-jobIn at k (Segment l h m) = []
+abbrev pub job_in : (at k : ℕ) → Record → List JobEntry
+job_in at k (Frame f) = []
+job_in at k (Job r b n) = record { mark = at; release = r; base = b; first = k; count = n } ∷ []
+job_in at k (Segment l h m) = []
 
-abbrev pub frameAfter : ℕ → Record → ℕ
-frameAfter k (Frame f) = f
-frameAfter k (Job r b n) = k
-frameAfter k (Segment l h m) = k
+abbrev pub frame_after : ℕ → Record → ℕ
+frame_after k (Frame f) = f
+frame_after k (Job r b n) = k
+frame_after k (Segment l h m) = k
 
 -- the same of a list of records
-unfoldable pub segmentsOf : List Placed → List SegmentEntry
-segmentsOf [] = []
-segmentsOf (r ∷ rs) = segmentIn r.what ++ segmentsOf rs
+unfoldable pub segments_of : List Placed → List SegmentEntry
+segments_of [] = []
+segments_of (r ∷ rs) = segment_in r.what ++ segments_of rs
 
-unfoldable pub jobsFrom : ℕ → List Placed → List JobEntry
-jobsFrom k [] = []
-jobsFrom k (r ∷ rs) = jobIn r.at k r.what ++ jobsFrom (k + length (segmentIn r.what)) rs
+unfoldable pub jobs_from : ℕ → List Placed → List JobEntry
+jobs_from k [] = []
+jobs_from k (r ∷ rs) = job_in r.at k r.what ++ jobs_from (k + length (segment_in r.what)) rs
 
-abbrev pub jobsOf : List Placed → List JobEntry
-jobsOf rs = jobsFrom 0 rs
+abbrev pub jobs_of : List Placed → List JobEntry
+jobs_of rs = jobs_from 0 rs
 
 unfoldable pub frame_of : ℕ → List Placed → ℕ
 frame_of k [] = k
-frame_of k (r ∷ rs) = frame_of (frameAfter k r.what) rs
+frame_of k (r ∷ rs) = frame_of (frame_after k r.what) rs
 
 -- the first n of a row of numbers, and zeros where there are fewer
 unfoldable pub padded : ℕ → List ℕ → List ℕ
@@ -58,21 +58,21 @@ padded (suc n) [] = 0 ∷ padded n []
 padded (suc n) (x ∷ xs) = x ∷ padded n xs
 
 -- the table of a frame length, jobs and segments
-unfoldable pub tableFrom : ℕ → List JobEntry → List SegmentEntry → Table
-tableFrom f js ss = record {
+unfoldable pub table_from : ℕ → List JobEntry → List SegmentEntry → Table
+table_from f js ss = record {
   frame = f;
   jobs = length js;
   segments = length ss;
-  mark = padded most-jobs (map (λ j. j.mark) js);
-  release = padded most-jobs (map (λ j. j.release) js);
-  base = padded most-jobs (map (λ j. j.base) js);
-  first = padded most-jobs (map (λ j. j.first) js);
-  count = padded most-jobs (map (λ j. j.count) js);
-  shortest = padded most-segments (map (λ s. s.shortest) ss);
-  longest = padded most-segments (map (λ s. s.longest) ss);
-  held = padded most-segments (map (λ s. s.held) ss);
+  mark = padded most_jobs (map (λ j. j.mark) js);
+  release = padded most_jobs (map (λ j. j.release) js);
+  base = padded most_jobs (map (λ j. j.base) js);
+  first = padded most_jobs (map (λ j. j.first) js);
+  count = padded most_jobs (map (λ j. j.count) js);
+  shortest = padded most_segments (map (λ s. s.shortest) ss);
+  longest = padded most_segments (map (λ s. s.longest) ss);
+  held = padded most_segments (map (λ s. s.held) ss);
 }
 
 -- the table of these records
 unfoldable pub recorded : List Placed → Table
-recorded rs = tableFrom (frame_of 0 rs) (jobsOf rs) (segmentsOf rs)
+recorded rs = table_from (frame_of 0 rs) (jobs_of rs) (segments_of rs)

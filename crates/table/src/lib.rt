@@ -1,9 +1,9 @@
 // The job table: its bytes are read record by record, and a table that reads whole and keeps its limits is held by value.
 ghost use Rattle.std.specs.Prelude.{◌≡◌, List, [], ◌+◌, ◌*◌, ◌<◌};
 ghost use Rattle.table.specs.Table.{recorded};
-ghost use Rattle.table.specs.Refusal.{answer, outcomeOf};
+ghost use Rattle.table.specs.Refusal.{answer, outcome_of};
 ghost use Rattle.table.specs.Part.{Lies, start_of, length_of, part_of};
-ghost use Rattle.table.specs.Steps.{withFrame, withJob, withSegment, added, known_by, scanOf, endedAt, answerTo};
+ghost use Rattle.table.specs.Steps.{with_frame, with_job, with_segment, added, known_by, scan_of, ended_at, answer_to};
 ghost use Rattle.table.specs.Records.{Placed as Rec};
 ghost use Rattle.table.specs.declared.Table.{Table as Tab};
 
@@ -80,7 +80,7 @@ impl Table {
     }
 
     fn with_frame(mut self, frame: u32) -> Table
-        ensures { result ≡ withFrame self frame }
+        ensures { result ≡ with_frame self frame }
     {
         self.frame = frame;
         self
@@ -89,7 +89,7 @@ impl Table {
     // Jobs past the last that fits are counted and not stored.
     fn with_job(mut self, at: usize, release: u32, base: u8, count: u8) -> Table
         requires { self.jobs < 4096 }
-        ensures { result ≡ withJob self at release base count }
+        ensures { result ≡ with_job self at release base count }
     {
         let j = self.jobs;
         self.jobs = j + 1;
@@ -108,7 +108,7 @@ impl Table {
     // Segments past the last that fits are counted and not stored.
     fn with_segment(mut self, shortest: u32, longest: u32, held: u16) -> Table
         requires { self.segments < 4096 }
-        ensures { result ≡ withSegment self shortest longest held }
+        ensures { result ≡ with_segment self shortest longest held }
     {
         let k = self.segments;
         self.segments = k + 1;
@@ -147,7 +147,7 @@ impl Table {
 
     // Reads a table. The part of the bytes from each record's mark on is handed to the record's reader.
     pub fn read(bytes: &[u8]) -> Outcome
-        ensures { result ≡ outcomeOf bytes.now }
+        ensures { result ≡ outcome_of bytes.now }
     {
         if Table::BYTES < bytes.len() {
             return Outcome::refused(1, Table::BYTES);
@@ -223,7 +223,7 @@ impl Outcome {
 
     // The answer where the bytes ended at a place.
     fn judged(table: Table, scan: Scan, place: Place, end: usize) -> Outcome
-        ensures { (rs : List Rec) → table ≡ recorded rs → scan ≡ scanOf rs → result ≡ answerTo end (endedAt rs place end) }
+        ensures { (rs : List Rec) → table ≡ recorded rs → scan ≡ scan_of rs → result ≡ answer_to end (ended_at rs place end) }
     {
         if !place.may_end() {
             return Outcome::refused(1, end);

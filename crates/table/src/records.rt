@@ -1,6 +1,6 @@
 // One record of the table's bytes.
 ghost use Rattle.std.specs.Prelude.{◌≡◌, ◌+◌, ◌*◌, ◌-◌, ◌≤◌, length};
-ghost use Rattle.table.specs.Records.{le2, le4, sized, frame_at, jobAt, segmentAt, recordAt, size_of, due, placeAfter, mayEnd};
+ghost use Rattle.table.specs.Records.{le2, le4, sized, frame_at, job_at, segment_at, record_at, size_of, due, place_after, may_end};
 
 // What is due at a place of the table.
 #[derive(Drop)]
@@ -75,7 +75,7 @@ impl Record {
     }
 
     fn job(part: &[u8]) -> Answer
-        ensures { result ≡ sized part.now 8 (jobAt part.now) }
+        ensures { result ≡ sized part.now 8 (job_at part.now) }
     {
         if part.len() < 8 {
             return Answer::Refused(1);
@@ -84,7 +84,7 @@ impl Record {
     }
 
     fn segment(part: &[u8]) -> Answer
-        ensures { result ≡ sized part.now 12 (segmentAt part.now) }
+        ensures { result ≡ sized part.now 12 (segment_at part.now) }
     {
         if part.len() < 12 {
             return Answer::Refused(1);
@@ -94,7 +94,7 @@ impl Record {
 
     // The record at the start of the part, where one that may stand at the place does. The mark's number and the place select it.
     pub fn read(part: &[u8], place: Place) -> Answer
-        ensures { result ≡ recordAt place part.now }
+        ensures { result ≡ record_at place part.now }
     {
         if part.len() < 2 {
             return Answer::Refused(1);
@@ -150,7 +150,7 @@ impl Place {
 
     // What is due after a record that stood here.
     pub fn after(self, rec: Record) -> Place
-        ensures { result ≡ placeAfter self rec }
+        ensures { result ≡ place_after self rec }
     {
         match rec {
             Record::Frame(_) => Place::Next,
@@ -165,7 +165,7 @@ impl Place {
 
     // A table may end here.
     pub fn may_end(self) -> bool
-        ensures { result ≡ mayEnd self }
+        ensures { result ≡ may_end self }
     {
         match self {
             Place::First => false,

@@ -1,8 +1,8 @@
 // Where the records read so far first give cause for refusals 2, 3 and 4.
 ghost use Rattle.std.specs.Prelude.{◌≡◌, [], ◌||◌, ltb, leb};
-ghost use Rattle.table.specs.Limits.{most-ticks, most-base, most-count};
+ghost use Rattle.table.specs.Limits.{most_ticks, most_base, most_count};
 ghost use Rattle.table.specs.Refusal.{learn, outside, earlier, beyond};
-ghost use Rattle.table.specs.Steps.{scanOf, scanned, firstSpot};
+ghost use Rattle.table.specs.Steps.{scan_of, scanned, first_spot};
 
 use crate::Table;
 use crate::records::Record;
@@ -45,7 +45,7 @@ fn either(a: bool, b: bool) -> bool
 impl Spot {
     // This place, or where there is none yet, the one here if there is cause.
     fn or(self, cause: bool, at: usize) -> Spot
-        ensures { result ≡ firstSpot self cause at }
+        ensures { result ≡ first_spot self cause at }
     {
         match self {
             Spot::At(first) => Spot::At(first),
@@ -60,20 +60,20 @@ impl Spot {
 }
 
 fn bad_frame(frame: u32) -> bool
-    ensures { result ≡ (ltb frame 1 || ltb most-ticks frame) }
+    ensures { result ≡ (ltb frame 1 || ltb most_ticks frame) }
 {
     either(frame < 1, Table::TICKS < frame)
 }
 
 fn bad_job(frame: u32, release: u32, base: u8, count: u8) -> bool
-    ensures { result ≡ (leb frame release || ltb base 1 || ltb most-base base || ltb count 1 || ltb most-count count) }
+    ensures { result ≡ (leb frame release || ltb base 1 || ltb most_base base || ltb count 1 || ltb most_count count) }
 {
     let a = either(either(frame <= release, base < 1), Table::BASE < base);
     either(either(a, count < 1), Table::COUNT < count)
 }
 
 fn bad_segment(shortest: u32, longest: u32) -> bool
-    ensures { result ≡ (ltb shortest 1 || ltb longest shortest || ltb most-ticks longest) }
+    ensures { result ≡ (ltb shortest 1 || ltb longest shortest || ltb most_ticks longest) }
 {
     either(
         either(shortest < 1, longest < shortest),
@@ -129,7 +129,7 @@ impl Known {
 
 impl Scan {
     pub fn new() -> Scan
-        ensures { result ≡ scanOf [] }
+        ensures { result ≡ scan_of [] }
     {
         Scan {
             release: 0,

@@ -15,8 +15,8 @@ pub record Few (c : Count) : Type 0 where
   pub orders : c.orders ≤ 1000000
 
 -- one node more, that does not end a run, and that does
-abbrev pub withNode : Count → Count
-withNode c = record { nodes = c.nodes + 1; orders = c.orders }
+abbrev pub with_node : Count → Count
+with_node c = record { nodes = c.nodes + 1; orders = c.orders }
 
-abbrev pub withOrder : Count → Count
-withOrder c = record { nodes = c.nodes + 1; orders = c.orders + 1 }
+abbrev pub with_order : Count → Count
+with_order c = record { nodes = c.nodes + 1; orders = c.orders + 1 }

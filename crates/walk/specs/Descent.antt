@@ -2,8 +2,8 @@
 use Rattle.std.specs.Prelude.{ℕ, ◌+◌, ◌-◌, ◌*◌, ◌≤◌, ◌<◌, min, ◌≡◌, true, List, [], ◌∷◌}
 use Rattle.std.proofs.lemmas.List.Edits.{sets}
 use Rattle.kernel.specs.Rules.{JobSet, Kind}
-use Rattle.kernel.specs.Log.{kindNumber}
-use Rattle.kernel.specs.Words.{setOf, Loaded}
+use Rattle.kernel.specs.Log.{kind_number}
+use Rattle.kernel.specs.Words.{set_of, Loaded}
 use Rattle.kernel.specs.Laws.Tests.{iflt}
 use Rattle.kernel.specs.Laws.Control.{Control}
 use Rattle.kernel.specs.Laws.Step.{State}
@@ -13,7 +13,7 @@ use Rattle.orders.specs.Laws.Child.{Owes}
 use Rattle.orders.specs.Laws.Walk as walk
 use Rattle.orders.specs.Laws.Words.{words}
 use Rattle.walk.specs.State.{Stands}
-use Rattle.walk.specs.Switches.{switchOf, SwitchAsk}
+use Rattle.walk.specs.Switches.{switch_of, SwitchAsk}
 use Rattle.walk.specs.declared.switches.Switch.{Switch}
 use Rattle.walk.specs.Count.{Count}
 
@@ -45,10 +45,10 @@ pub record High (to depth : ℕ) : Type 0 where
 
 -- the switch stands for the child of a span: before the dispatch, the words stand for the control
 pub record Twig (w s : List ℕ) (x : Switch) (kind : Kind) (κ : Control) (least most : ℕ → ℕ → ℕ) (p : Span) : Type 0 where
-  pub switch : x ≡ switchOf (setOf w) (kindNumber kind) p
-  pub stands : Stands (setOf w) s κ least most
-  pub inside : p.job ≤ (setOf w).jobs
-  pub owes : Owes (setOf w) (child (setOf w) kind κ least most p).state (child (setOf w) kind κ least most p).box
+  pub switch : x ≡ switch_of (set_of w) (kind_number kind) p
+  pub stands : Stands (set_of w) s κ least most
+  pub inside : p.job ≤ (set_of w).jobs
+  pub owes : Owes (set_of w) (child (set_of w) kind κ least most p).state (child (set_of w) kind κ least most p).box
 
 pub record HangAsk (w s : List ℕ) (x : Switch) (seen : Count) (depth cap first out : ℕ) : Type 0 where
   pub loaded : Loaded w
@@ -65,14 +65,14 @@ pub record HangAsk (w s : List ℕ) (x : Switch) (seen : Count) (depth cap first
 pub record Hung (w s s' : List ℕ) (x : Switch) (parent depth cap : ℕ) (b : List ℕ) (c : Count) (b' : List ℕ) (c' : Count) : Type 0 where
   pub kept : s' ≡ s
   pub wrote : (kind : Kind) (κ : Control) (least most : ℕ → ℕ → ℕ) (p : Span) → Twig w s x kind κ least most p
-      → Wrote (setOf w) (walk.hang (walk.grow (setOf w) depth) (child (setOf w) kind κ least most p ∷ [])) parent cap b c b' c'
+      → Wrote (set_of w) (walk.hang (walk.grow (set_of w) depth) (child (set_of w) kind κ least most p ∷ [])) parent cap b c b' c'
 
 -- ---- grow
 
 -- after a dispatch, the words stand for a state and a box
 pub record Rep (w s : List ℕ) (j : ℕ) (S : State) (B : Box) : Type 0 where
-  pub stands : Stands (setOf w) s S.control B.least B.most
-  pub sound : Sound (setOf w) S B
+  pub stands : Stands (set_of w) s S.control B.least B.most
+  pub sound : Sound (set_of w) S B
   pub job : j ≡ S.job
   pub on : S.control.begun S.job ≡ true
 
@@ -90,7 +90,7 @@ pub record GrowAsk (w s : List ℕ) (j from to : ℕ) (seen : Count) (depth cap 
 pub record Grown (w s s' : List ℕ) (j from to parent depth cap : ℕ) (b : List ℕ) (c : Count) (b' : List ℕ) (c' : Count) : Type 0 where
   pub kept : s' ≡ s
   pub wrote : (S : State) (B : Box) → Rep w s j S B → from ≡ B.from → to ≡ B.to
-      → Wrote (setOf w) (walk.grow (setOf w) depth S B) parent cap b c b' c'
+      → Wrote (set_of w) (walk.grow (set_of w) depth S B) parent cap b c b' c'
 
 -- ---- leave, cut_off
 
@@ -101,15 +101,15 @@ pub record LeaveAsk (w s : List ℕ) (j e l : ℕ) (seen : Count) (depth cap fir
   pub state : State
   pub box : Box
   pub rep : Rep w s j state box
-  pub early : e ≡ early (setOf w) state box
-  pub latest : l ≡ latest (setOf w) state box
+  pub early : e ≡ early (set_of w) state box
+  pub latest : l ≡ latest (set_of w) state box
   pub some : 0 < depth
   pub high : High box.to depth
 
 pub record Left (w s s' : List ℕ) (j e l parent depth cap : ℕ) (b : List ℕ) (c : Count) (b' : List ℕ) (c' : Count) : Type 0 where
   pub kept : s' ≡ s
-  pub wrote : (S : State) (B : Box) → Rep w s j S B → e ≡ early (setOf w) S B → l ≡ latest (setOf w) S B
-      → Wrote (setOf w) (walk.hang (walk.grow (setOf w) (depth - 1)) (leaves (setOf w) S B)) parent cap b c b' c'
+  pub wrote : (S : State) (B : Box) → Rep w s j S B → e ≡ early (set_of w) S B → l ≡ latest (set_of w) S B
+      → Wrote (set_of w) (walk.hang (walk.grow (set_of w) (depth - 1)) (leaves (set_of w) S B)) parent cap b c b' c'
 
 pub record CutAsk (w s : List ℕ) (j e y l : ℕ) (seen : Count) (depth cap first out : ℕ) : Type 0 where
   pub loaded : Loaded w
@@ -118,14 +118,14 @@ pub record CutAsk (w s : List ℕ) (j e y l : ℕ) (seen : Count) (depth cap fir
   pub state : State
   pub box : Box
   pub rep : Rep w s j state box
-  pub early : e ≡ early (setOf w) state box
-  pub late : y ≡ late (setOf w) state box
-  pub latest : l ≡ latest (setOf w) state box
+  pub early : e ≡ early (set_of w) state box
+  pub late : y ≡ late (set_of w) state box
+  pub latest : l ≡ latest (set_of w) state box
   pub cut : l < y
   pub some : 0 < depth
   pub high : High box.to depth
 
 pub record CutOff (w s s' : List ℕ) (j e y l parent depth cap : ℕ) (b : List ℕ) (c : Count) (b' : List ℕ) (c' : Count) : Type 0 where
   pub kept : s' ≡ s
-  pub wrote : (S : State) (B : Box) → Rep w s j S B → e ≡ early (setOf w) S B → y ≡ late (setOf w) S B → l ≡ latest (setOf w) S B
-      → Wrote (setOf w) (walk.hang (walk.grow (setOf w) (depth - 1)) (cuts (setOf w) S B)) parent cap b c b' c'
+  pub wrote : (S : State) (B : Box) → Rep w s j S B → e ≡ early (set_of w) S B → y ≡ late (set_of w) S B → l ≡ latest (set_of w) S B
+      → Wrote (set_of w) (walk.hang (walk.grow (set_of w) (depth - 1)) (cuts (set_of w) S B)) parent cap b c b' c'

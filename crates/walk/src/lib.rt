@@ -1,9 +1,9 @@
 // The walk over all orders of a job set, and the tree that it writes.
 ghost use Rattle.std.specs.Prelude.{◌≡◌};
-ghost use Rattle.kernel.specs.Words.{setOf, Loaded};
+ghost use Rattle.kernel.specs.Words.{set_of, Loaded};
 ghost use Rattle.orders.specs.Laws.Walk.{enough};
 ghost use Rattle.walk.specs.Count.{count_of};
-ghost use Rattle.walk.specs.Tree.{roomOf, PassAsk, Passed, Walked};
+ghost use Rattle.walk.specs.Tree.{room_of, PassAsk, Passed, Walked};
 
 mod choice;
 mod descent;
@@ -23,7 +23,7 @@ pub enum Found {
 
 // How many nodes these words hold, at most 1,000,000.
 fn room_of(words: usize) -> u32
-    ensures { result ≡ roomOf words }
+    ensures { result ≡ room_of words }
 {
     let room = words / 8;
     if room < 1000000 { room as u32 } else { 1000000 }
@@ -32,7 +32,7 @@ fn room_of(words: usize) -> u32
 // How many switches may follow the first.
 fn enough(set: &[u32; 322]) -> usize
     requires { Loaded set.now }
-    ensures { result ≡ enough (setOf set.now) }
+    ensures { result ≡ enough (set_of set.now) }
 {
     let n = jobs::jobs(set);
     let mut total: usize = 0;
@@ -69,7 +69,7 @@ fn pass(set: &[u32; 322], words: &mut [u32], cap: u32) -> u64
 // Counts first, so that words that do not hold the whole tree stay as they are.
 pub fn tree(set: &[u32; 322], words: &mut [u32]) -> Found
     requires { Loaded set.now }
-    ensures { Walked (setOf set.now) words.old words.new result }
+    ensures { Walked (set_of set.now) words.old words.new result }
 {
     let room = room_of(words.len());
     let mut scrap = [0u32; 1];

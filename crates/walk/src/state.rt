@@ -1,7 +1,7 @@
 // Where a walk stands, in 128 lent words: four a job from word 4i on. One state serves the whole walk; each step puts back what it found.
 ghost use Rattle.std.specs.Prelude.{◌≡◌, ◌<◌};
-ghost use Rattle.kernel.specs.Words.{setOf, Loaded};
-ghost use Rattle.walk.specs.State.{standingAt, put_at, begunAt, resumedAs, cutAs, newAt, Unbegun};
+ghost use Rattle.kernel.specs.Words.{set_of, Loaded};
+ghost use Rattle.walk.specs.State.{standing_at, put_at, begun_at, resumed_as, cut_as, new_at, Unbegun};
 
 use kernel::{jobs, keys};
 
@@ -16,7 +16,7 @@ pub struct Standing {
 
 pub fn of_job(state: &[u32; 128], i: usize) -> Standing
     requires { i < 32 }
-    ensures { result ≡ standingAt state.now i }
+    ensures { result ≡ standing_at state.now i }
 {
     Standing {
         key: state[4 * i],
@@ -39,7 +39,7 @@ pub fn put(state: &mut [u32; 128], i: usize, x: Standing)
 // Job i, begun, at the start of its segment k.
 pub fn begun(set: &[u32; 322], i: usize, k: u32) -> Standing
     requires { Loaded set.now }
-    ensures { result ≡ begunAt (setOf set.now) i k }
+    ensures { result ≡ begun_at (set_of set.now) i k }
 {
     Standing {
         key: keys::ready_key(set, i, k, true) as u32,
@@ -52,7 +52,7 @@ pub fn begun(set: &[u32; 322], i: usize, k: u32) -> Standing
 // Job i, standing as it does, once it is dispatched.
 pub fn resumed(set: &[u32; 322], i: usize, was: Standing) -> Standing
     requires { Loaded set.now }
-    ensures { result ≡ resumedAs (setOf set.now) i was }
+    ensures { result ≡ resumed_as (set_of set.now) i was }
 {
     Standing {
         key: keys::ready_key(set, i, was.segment, true) as u32,
@@ -64,7 +64,7 @@ pub fn resumed(set: &[u32; 322], i: usize, was: Standing) -> Standing
 
 // A job that is cut, with what is left of its segment.
 pub fn cut(was: Standing, least: u32, most: u32) -> Standing
-    ensures { result ≡ cutAs was least most }
+    ensures { result ≡ cut_as was least most }
 {
     Standing {
         key: was.key,
@@ -77,7 +77,7 @@ pub fn cut(was: Standing, least: u32, most: u32) -> Standing
 // Job i, not begun.
 fn new(set: &[u32; 322], i: usize) -> Standing
     requires { Loaded set.now }
-    ensures { result ≡ newAt (setOf set.now) i }
+    ensures { result ≡ new_at (set_of set.now) i }
 {
     Standing {
         key: keys::ready_key(set, i, 0, false) as u32,
@@ -90,7 +90,7 @@ fn new(set: &[u32; 322], i: usize) -> Standing
 // No job has begun.
 pub fn fresh(set: &[u32; 322]) -> [u32; 128]
     requires { Loaded set.now }
-    ensures { Unbegun (setOf set.now) result }
+    ensures { Unbegun (set_of set.now) result }
 {
     let mut state = [0u32; 128];
     let mut i: usize = 0;

@@ -1,9 +1,9 @@
 // The switches by which a segment may be left.
 ghost use Rattle.std.specs.Prelude.{◌≡◌, ◌-◌, max};
-ghost use Rattle.kernel.specs.Log.{kindNumber};
-ghost use Rattle.kernel.specs.Words.{setOf};
+ghost use Rattle.kernel.specs.Log.{kind_number};
+ghost use Rattle.kernel.specs.Words.{set_of};
 ghost use Rattle.walk.specs.Choice.{First};
-ghost use Rattle.walk.specs.Switches.{leaveKindFor, switchFor, SwitchAsk, SpanAsk, Spanned, Cuts, Begins};
+ghost use Rattle.walk.specs.Switches.{leave_kind_for, switch_for, SwitchAsk, SpanAsk, Spanned, Cuts, Begins};
 
 use crate::choice;
 use kernel::jobs;
@@ -27,7 +27,7 @@ fn later(x: u32, y: u32) -> u32
 
 // STEP where job i has a segment k, else END.
 pub fn leave_kind(set: &[u32; 322], i: usize, k: u32) -> u32
-    ensures { result ≡ kindNumber (leaveKindFor (setOf set.now) i k) }
+    ensures { result ≡ kind_number (leave_kind_for (set_of set.now) i k) }
 {
     if k < jobs::segments(set, i) { 2 } else { 1 }
 }
@@ -44,7 +44,7 @@ pub fn least_left(early: u32, t: u32) -> u32
 
 // The switch to job d of the ticks of leaving from first to last.
 fn to_job(set: &[u32; 322], kind: u32, first: u32, last: u32, d: u32) -> Switch
-    ensures { result ≡ switchFor (setOf set.now) kind first last d }
+    ensures { result ≡ switch_for (set_of set.now) kind first last d }
 {
     let release = jobs::release(set, d as usize);
     Switch {

@@ -1,5 +1,5 @@
 use mathlib.Core.Path.{refl}
-use Rattle.draft.specs.Laws.Packs.{zeros, pack-refused, pack-small, pack-judged, pack-whole}
+use Rattle.draft.specs.Laws.Packs.{zeros, pack_refused, pack_small, pack_judged, pack_whole}
 use borrow.Author.Rules.{rules}
 use Rattle.draft.proofs.pack.Statement.{statement}
 use Rattle.draft.proofs.pack.Tie as tie
@@ -19,7 +19,7 @@ refused-requires c κs = search rules
 returns : tie.Need-returns
 returns c =
     let collect = c.before.before.before.before.before in
-    pack-refused _ _ _ _ _ collect.collect.ensures.1 _ _ c.before.if1.true c.refused.ensures
+    pack_refused _ _ _ _ _ collect.collect.ensures.1 _ _ c.before.if1.true c.refused.ensures
 
 sub_read : tie.Need-overflow-sub-read
 sub_read c = search rules
@@ -44,7 +44,7 @@ shown-requires c κs =
     let read = c.before.before.before.before in
     let whole = read.before.before.before in
     let collect = whole.before.before.before.before in
-    pack-small _ _ _ _ _ collect.collect.ensures.1 whole.if1.false _ read.read.ensures
+    pack_small _ _ _ _ _ collect.collect.ensures.1 whole.if1.false _ read.read.ensures
 
 refused-requires-2 : tie.Need-refused-requires-2
 refused-requires-2 c κs = search rules
@@ -57,7 +57,7 @@ returns-2 c =
     let read = bad.before.before in
     let whole = read.before.before.before in
     let collect = whole.before.before.before.before in
-    pack-judged _ _ _ _ _ collect.collect.ensures.1 whole.if1.false _ read.read.ensures _ _ _ _ bad.if2.true shown.shown.ensures line.Line-of.ensures c.refused2.ensures
+    pack_judged _ _ _ _ _ collect.collect.ensures.1 whole.if1.false _ read.read.ensures _ _ _ _ bad.if2.true shown.shown.ensures line.Line-of.ensures c.refused2.ensures
 
 slice-aggregate-copy : tie.Need-slice-aggregate-copy
 slice-aggregate-copy c = search rules
@@ -71,7 +71,7 @@ returns-3 c =
     let read = good.before.before in
     let whole = read.before.before.before in
     let collect = whole.before.before.before.before in
-    pack-whole _ _ _ _ _ collect.collect.ensures.1 whole.if1.false _ read.read.ensures _ _ good.if2.false c.copy.ensures
+    pack_whole _ _ _ _ _ collect.collect.ensures.1 whole.if1.false _ read.read.ensures _ _ good.if2.false c.copy.ensures
 
 pub pack-spec : {M : Type 1} → statement M
 pack-spec =

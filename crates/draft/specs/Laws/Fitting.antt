@@ -9,11 +9,11 @@ use Rattle.std.proofs.lemmas.Nat.{or_lt}
 use borrow.Author.Tests.{ltb-true, ltb-false}
 use Rattle.draft.specs.Words.{first, others, none, same}
 use Rattle.draft.specs.Numbers.{number_of}
-use Rattle.draft.specs.Locks.{number_in, knowing, namesWith, heldFrom, tooMany}
-use Rattle.draft.specs.Forms.{most-four, most-one, frameWord, jobWord, segmentWord, releaseWord, priorityWord, holdsWord, plain, with_number, frameSays, prioritySays, releaseSays, jobSays, Says, heldSays, holdsSays, segmentSays, lineSays}
-use Rattle.draft.specs.Laws.Bits.{bit-small}
-use Rattle.draft.specs.Laws.Digits.{number-most}
-use Rattle.draft.specs.Laws.Knowing.{number-le, names-grow}
+use Rattle.draft.specs.Locks.{number_in, knowing, names_with, held_from, too_many}
+use Rattle.draft.specs.Forms.{most_four, most_one, frame_word, job_word, segment_word, release_word, priority_word, holds_word, plain, with_number, frame_says, priority_says, release_says, job_says, Says, held_says, holds_says, segment_says, line_says}
+use Rattle.draft.specs.Laws.Bits.{bit_small}
+use Rattle.draft.specs.Laws.Digits.{number_most}
+use Rattle.draft.specs.Laws.Knowing.{number_le, names_grow}
 use Rattle.draft.specs.declared.text.Number.{Number}
 use Rattle.draft.specs.declared.text.Number.TheVariants.{Is, Not}
 use Rattle.draft.specs.declared.forms.Line.{Line}
@@ -36,79 +36,79 @@ each_number : {A : Type 0} (P : A → Type 0) (most : ℕ) (w : List ℕ) (x : A
 each_number P most w x f p q = go (number_of most w) refl
   where
     go : (y : Number) → number_of most w ≡ y → P (with_number y x f)
-    go (Is n) e = q n (number-most most n w (number_of most w) refl e)
+    go (Is n) e = q n (number_most most n w (number_of most w) refl e)
     go Not e = p
 
 -- the lines without locks
-frame-fits : (ws : List (List ℕ)) → LineFits (frameSays ws)
-unfolding frameSays
-frame-fits ws =
-    each_number LineFits most-four (first ws) (Fault 2) _ (omega arith) (λ n l. either LineFits (none (others ws)) (Frame n) (Fault 4) (omega arith) (omega arith))
+frame_fits : (ws : List (List ℕ)) → LineFits (frame_says ws)
+unfolding frame_says
+frame_fits ws =
+    each_number LineFits most_four (first ws) (Fault 2) _ (omega arith) (λ n l. either LineFits (none (others ws)) (Frame n) (Fault 4) (omega arith) (omega arith))
 
-priority-fits : (r : ℕ) (ws : List (List ℕ)) → r ≤ most-four → LineFits (prioritySays r ws)
-unfolding prioritySays
-priority-fits r ws h =
-    each_number LineFits most-one (first ws) (Fault 2) _ (omega arith) (λ n l. either LineFits (none (others ws)) (Job r n) (Fault 4) (omega arith, omega arith) (omega arith))
+priority_fits : (r : ℕ) (ws : List (List ℕ)) → r ≤ most_four → LineFits (priority_says r ws)
+unfolding priority_says
+priority_fits r ws h =
+    each_number LineFits most_one (first ws) (Fault 2) _ (omega arith) (λ n l. either LineFits (none (others ws)) (Job r n) (Fault 4) (omega arith, omega arith) (omega arith))
 
-release-fits : (ws : List (List ℕ)) → LineFits (releaseSays ws)
-unfolding releaseSays
-release-fits ws =
-    each_number LineFits most-four (first ws) (Fault 2) _ (omega arith)
-    (λ n l. either LineFits (same (first (others ws)) priorityWord) (prioritySays n (others (others ws))) (Fault 3) (priority-fits n (others (others ws)) l) (omega arith))
+release_fits : (ws : List (List ℕ)) → LineFits (release_says ws)
+unfolding release_says
+release_fits ws =
+    each_number LineFits most_four (first ws) (Fault 2) _ (omega arith)
+    (λ n l. either LineFits (same (first (others ws)) priority_word) (priority_says n (others (others ws))) (Fault 3) (priority_fits n (others (others ws)) l) (omega arith))
 
-job-fits : (ws : List (List ℕ)) → LineFits (jobSays ws)
-unfolding jobSays
-job-fits ws =
+job_fits : (ws : List (List ℕ)) → LineFits (job_says ws)
+unfolding job_says
+job_fits ws =
     either LineFits (none ws) (Fault 3) _ (omega arith)
-    (either LineFits (same (first (others ws)) releaseWord) (releaseSays (others (others ws))) (Fault 3) (release-fits (others (others ws))) (omega arith))
+    (either LineFits (same (first (others ws)) release_word) (release_says (others (others ws))) (Fault 3) (release_fits (others (others ws))) (omega arith))
 
 -- a name's number is below how many are known with it
-number-known : (ns : List (List ℕ)) (w : List ℕ) → number_in ns w < length (knowing ns w)
-number-known ns w = go (ltb (number_in ns w) (length ns)) refl
+number_known : (ns : List (List ℕ)) (w : List ℕ) → number_in ns w < length (knowing ns w)
+number_known ns w = go (ltb (number_in ns w) (length ns)) refl
   where
     go : (b : Bool) → ltb (number_in ns w) (length ns) ≡ b → number_in ns w < length (cond b ns (ns ++ w ∷ []))
     go true e = ltb-true (number_in ns w) (length ns) e
-    go false e = omega (arith, number-le ns w, length-append ns (w ∷ []))
+    go false e = omega (arith, number_le ns w, length-append ns (w ∷ []))
 
-held_fits : (ns : List (List ℕ)) (held : ℕ) (ws : List (List ℕ)) → held < 65536 → length (namesWith ns ws) ≤ 16 → heldFrom ns held ws < 65536
-unfolding heldFrom namesWith
+held_fits : (ns : List (List ℕ)) (held : ℕ) (ws : List (List ℕ)) → held < 65536 → length (names_with ns ws) ≤ 16 → held_from ns held ws < 65536
+unfolding held_from names_with
 held_fits ns held [] h l = h
 held_fits ns held (w ∷ ws) h l =
     held_fits (knowing ns w) (bit_or held (2 ^ number_in ns w)) ws
-    (or_lt 16 held (2 ^ number_in ns w) h (bit-small (number_in ns w) (omega (arith, number-known ns w, names-grow (knowing ns w) ws, l)))) l
+    (or_lt 16 held (2 ^ number_in ns w) h (bit_small (number_in ns w) (omega (arith, number_known ns w, names_grow (knowing ns w) ws, l)))) l
 
 -- any line, where at most 16 lock names are known
 abbrev pub SaysFit : Says → Type 0
 SaysFit x = LineFits x.line × (length x.names ≤ 16)
 
 module _ (ns : List (List ℕ)) (few : length ns ≤ 16) where
-  lock-fits : (a b : ℕ) (ws : List (List ℕ)) → a ≤ most-four → b ≤ most-four → SaysFit (heldSays ns a b ws)
-  unfolding heldSays
-  lock-fits a b ws h l = either SaysFit (none ws) (plain ns (Fault 3)) _ (omega arith, few) (go (tooMany ns ws) refl)
+  lock_fits : (a b : ℕ) (ws : List (List ℕ)) → a ≤ most_four → b ≤ most_four → SaysFit (held_says ns a b ws)
+  unfolding held_says
+  lock_fits a b ws h l = either SaysFit (none ws) (plain ns (Fault 3)) _ (omega arith, few) (go (too_many ns ws) refl)
     where
-      go : (t : Bool) → tooMany ns ws ≡ t
-          → SaysFit (cond t (record { line = Fault 8; names = ns }) (record { line = Segment a b (heldFrom ns 0 ws); names = namesWith ns ws }))
+      go : (t : Bool) → too_many ns ws ≡ t
+          → SaysFit (cond t (record { line = Fault 8; names = ns }) (record { line = Segment a b (held_from ns 0 ws); names = names_with ns ws }))
       go true e = (omega arith, few)
       go false e =
-          let most : length (namesWith ns ws) ≤ 16 = ltb-false 16 (length (namesWith ns ws)) e in
+          let most : length (names_with ns ws) ≤ 16 = ltb-false 16 (length (names_with ns ws)) e in
           ((omega arith, omega arith, held_fits ns 0 ws (omega arith) most), most)
 
-  holds_fits : (a b : ℕ) (ws : List (List ℕ)) → a ≤ most-four → b ≤ most-four → SaysFit (holdsSays ns a b ws)
-  unfolding holdsSays
+  holds_fits : (a b : ℕ) (ws : List (List ℕ)) → a ≤ most_four → b ≤ most_four → SaysFit (holds_says ns a b ws)
+  unfolding holds_says
   holds_fits a b ws h l =
       either SaysFit (none ws) (plain ns (Segment a b 0)) _ ((omega arith, omega arith, omega arith), few)
-      (either SaysFit (same (first ws) holdsWord) (heldSays ns a b (others ws)) (plain ns (Fault 3)) (lock-fits a b (others ws) h l) (omega arith, few))
+      (either SaysFit (same (first ws) holds_word) (held_says ns a b (others ws)) (plain ns (Fault 3)) (lock_fits a b (others ws) h l) (omega arith, few))
 
-  segment-fits : (ws : List (List ℕ)) → SaysFit (segmentSays ns ws)
-  unfolding segmentSays
-  segment-fits ws =
-      each_number SaysFit most-four (first ws) (plain ns (Fault 2)) _ (omega arith, few)
-      (λ a h. each_number SaysFit most-four (first (others ws)) (plain ns (Fault 2)) _ (omega arith, few) (λ b l. holds_fits a b (others (others ws)) h l))
+  segment_fits : (ws : List (List ℕ)) → SaysFit (segment_says ns ws)
+  unfolding segment_says
+  segment_fits ws =
+      each_number SaysFit most_four (first ws) (plain ns (Fault 2)) _ (omega arith, few)
+      (λ a h. each_number SaysFit most_four (first (others ws)) (plain ns (Fault 2)) _ (omega arith, few) (λ b l. holds_fits a b (others (others ws)) h l))
 
-  pub line-fits : (ws : List (List ℕ)) → SaysFit (lineSays ns ws)
-  unfolding lineSays
-  line-fits ws =
+  pub line_fits : (ws : List (List ℕ)) → SaysFit (line_says ns ws)
+  unfolding line_says
+  line_fits ws =
       either SaysFit (none ws) (plain ns Nothing) _ (omega arith, few)
-      (either SaysFit (same (first ws) frameWord) (plain ns (frameSays (others ws))) _ (frame-fits (others ws), few)
-      (either SaysFit (same (first ws) jobWord) (plain ns (jobSays (others ws))) _ (job-fits (others ws), few)
-      (either SaysFit (same (first ws) segmentWord) (segmentSays ns (others ws)) (plain ns (Fault 1)) (segment-fits (others ws)) (omega arith, few))))
+      (either SaysFit (same (first ws) frame_word) (plain ns (frame_says (others ws))) _ (frame_fits (others ws), few)
+      (either SaysFit (same (first ws) job_word) (plain ns (job_says (others ws))) _ (job_fits (others ws), few)
+      (either SaysFit (same (first ws) segment_word) (segment_says ns (others ws)) (plain ns (Fault 1)) (segment_fits (others ws)) (omega arith, few))))

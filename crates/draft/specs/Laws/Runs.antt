@@ -7,10 +7,10 @@ pub never : {A : Type 0} (b : Bool) → b ≡ true → b ≡ false → A
 never b p q = absurd (let z : true ≡ false = sym p ∙ q in let y : ◌≡◌ {A = ℕ} 0 1 = cc in omega arith)
 
 -- inside, what stands past the end does not matter
-pub inside-any : (s : List ℕ) (i d e : ℕ) → i < length s → get_or s i d ≡ get_or s i e
-inside-any [] i d e h = absurd (omega arith)
-inside-any (x ∷ xs) zero d e h = refl
-inside-any (x ∷ xs) (suc i) d e h = inside-any xs i d e (omega arith)
+pub inside_any : (s : List ℕ) (i d e : ℕ) → i < length s → get_or s i d ≡ get_or s i e
+inside_any [] i d e h = absurd (omega arith)
+inside_any (x ∷ xs) zero d e h = refl
+inside_any (x ∷ xs) (suc i) d e h = inside_any xs i d e (omega arith)
 
 -- a byte that passes is inside, since past the end stands a newline, and begins a run
 pub run_inside : (test : ℕ → Bool) (s : List ℕ) (i : ℕ) → test 10 ≡ false → test (get_or s i 10) ≡ true → i < length s
@@ -24,12 +24,12 @@ run_more test [] i n e = never (test 10) e n
 run_more test (x ∷ xs) zero n e = rw e
 run_more test (x ∷ xs) (suc i) n e = run_more test xs i n e
 
-pub run-over : (test : ℕ → Bool) (s : List ℕ) (i : ℕ) → test (get_or s i 10) ≡ false → run test (drop i s) ≡ 0
+pub run_over : (test : ℕ → Bool) (s : List ℕ) (i : ℕ) → test (get_or s i 10) ≡ false → run test (drop i s) ≡ 0
 unfolding run
-run-over test [] zero e = refl
-run-over test [] (suc i) e = refl
-run-over test (x ∷ xs) zero e = rw e
-run-over test (x ∷ xs) (suc i) e = run-over test xs i e
+run_over test [] zero e = refl
+run_over test [] (suc i) e = refl
+run_over test (x ∷ xs) zero e = rw e
+run_over test (x ∷ xs) (suc i) e = run_over test xs i e
 
 pub run_fits : (test : ℕ → Bool) (s : List ℕ) → run test s ≤ length s
 unfolding run
@@ -43,15 +43,15 @@ run_fits test (x ∷ xs) = go (test x) (run_fits test xs)
 -- ---- a loop over a run, at place i of s: b is the byte there and t says whether it passes
 
 module _ (test : ℕ → Bool) (s : List ℕ) (i b : ℕ) (t : Bool) (byte : b ≡ get_or s i 10) (told : t ≡ test b) where
-  pub scan-inside : test 10 ≡ false → t ≡ true → i < length s
-  scan-inside n e = run_inside test s i n (rw byte at (sym told ∙ e))
+  pub scan_inside : test 10 ≡ false → t ≡ true → i < length s
+  scan_inside n e = run_inside test s i n (rw byte at (sym told ∙ e))
 
-  pub scan-more : (at : ℕ) → test 10 ≡ false → t ≡ true → i + run test (drop i s) ≡ at + run test (drop at s) → i + 1 + run test (drop (i + 1) s) ≡ at + run test (drop at s)
-  scan-more at n e inv =
+  pub scan_more : (at : ℕ) → test 10 ≡ false → t ≡ true → i + run test (drop i s) ≡ at + run test (drop at s) → i + 1 + run test (drop (i + 1) s) ≡ at + run test (drop at s)
+  scan_more at n e inv =
       let h : run test (drop i s) ≡ suc (run test (drop (suc i) s)) = run_more test s i n (rw byte at (sym told ∙ e)) in
       rw add-one (omega (arith, h, inv))
 
-  pub scan-over : (at : ℕ) → t ≡ false → i + run test (drop i s) ≡ at + run test (drop at s) → i ≡ at + run test (drop at s)
-  scan-over at e inv =
-      let h : run test (drop i s) ≡ 0 = run-over test s i (rw byte at (sym told ∙ e)) in
+  pub scan_over : (at : ℕ) → t ≡ false → i + run test (drop i s) ≡ at + run test (drop at s) → i ≡ at + run test (drop at s)
+  scan_over at e inv =
+      let h : run test (drop i s) ≡ 0 = run_over test s i (rw byte at (sym told ∙ e)) in
       omega (arith, h, inv)

@@ -1,16 +1,16 @@
 use Prim.Native.Nat.{◌-◌, ◌≤◌}
 use native.Mathlib.Omega.{arith}
 use mathlib.Core.Path.{◌≡◌, ◌∙◌}
-use Rattle.jobset.specs.Load.{withJobs}
+use Rattle.jobset.specs.Load.{with_jobs}
 use borrow.Author.Rules.{rules}
-use Rattle.jobset.specs.Laws.Accepted.{last-number}
-use Rattle.jobset.proofs.Placed.{Placed, placed-none, placed-more, words-none, words_more}
+use Rattle.jobset.specs.Laws.Accepted.{last_number}
+use Rattle.jobset.proofs.Placed.{Placed, placed_none, placed_more, words_none, words_more}
 use Rattle.jobset.proofs.Laid.{laid}
 use Rattle.jobset.proofs.load.Statement.{statement}
 use Rattle.jobset.proofs.load.Tie as tie
 
 abbrev invariant-loop : tie.invariant-loop
-invariant-loop table ceilings jobs words₀ i₀ words i = (i ≤ jobs) × (jobs ≤ 32) × Placed table words i × (words ≡ withJobs table i)
+invariant-loop table ceilings jobs words₀ i₀ words i = (i ≤ jobs) × (jobs ≤ 32) × Placed table words i × (words ≡ with_jobs table i)
 
 abbrev decreases-loop : tie.decreases-loop
 decreases-loop table ceilings jobs words₀ i₀ words i = jobs - i
@@ -19,13 +19,13 @@ ceilings-requires : tie.Need-ceilings-requires invariant-loop decreases-loop
 ceilings-requires c κs = search rules
 
 cast-heading : tie.Need-overflow-cast-heading invariant-loop decreases-loop
-cast-heading c = omega (arith, c.before.requires.jobs-most)
+cast-heading c = omega (arith, c.before.requires.jobs_most)
 
 heading-requires : tie.Need-heading-requires invariant-loop decreases-loop
 heading-requires c κs = search rules
 
 loop-holds : tie.Need-loop-init invariant-loop decreases-loop
-loop-holds c = (omega arith, c.before.before.requires.jobs-most, rw c.heading.ensures (placed-none _), c.heading.ensures ∙ words-none _)
+loop-holds c = (omega arith, c.before.before.requires.jobs_most, rw c.heading.ensures (placed_none _), c.heading.ensures ∙ words_none _)
 
 mul-put-job : tie.Need-overflow-mul-put-job invariant-loop decreases-loop
 mul-put-job c = search rules
@@ -46,7 +46,7 @@ cast-put-job : tie.Need-overflow-cast-put-job invariant-loop decreases-loop
 cast-put-job c =
     let turn = c.before.before.before.before in
     let entry = turn.before.before.before.before in
-    omega (arith, last-number entry.args.t1 entry.requires turn.before.loop.i turn.loop-test.true, entry.requires.segments-most)
+    omega (arith, last_number entry.args.t1 entry.requires turn.before.loop.i turn.loop-test.true, entry.requires.segments_most)
 
 element-copy-out-put-job-4 : tie.Need-element-copy-out-put-job-4 invariant-loop decreases-loop
 element-copy-out-put-job-4 c = search rules
@@ -73,7 +73,7 @@ loop-again c =
     let inv = turn.before.loop.invariant in (
       omega (arith, turn.loop-test.true),
       inv.1,
-      placed-more _ turn.before.before.before.before.requires _ _ turn.loop-test.true inv.2 _ _ put.put-job.ensures c.put-segments.ensures,
+      placed_more _ turn.before.before.before.before.requires _ _ turn.loop-test.true inv.2 _ _ put.put-job.ensures c.put-segments.ensures,
       words_more _ _ _ _ _ inv.3 put.put-job.ensures c.put-segments.ensures,
     )
 

@@ -2,15 +2,15 @@ use Prim.Native.Nat.{◌+◌, ◌-◌, ◌≤◌}
 use native.Mathlib.Omega.{arith}
 use mathlib.Core.Path.{◌≡◌, refl}
 use borrow.Author.Rules.{rules}
-use Rattle.jobset.specs.Load.{withSegments}
-use Rattle.jobset.specs.Laws.Accepted.{last-number}
-use Rattle.jobset.proofs.Placed.{segments-all, segments-more}
-use Rattle.jobset.proofs.Locks.{dispatched-by}
+use Rattle.jobset.specs.Load.{with_segments}
+use Rattle.jobset.specs.Laws.Accepted.{last_number}
+use Rattle.jobset.proofs.Placed.{segments_all, segments_more}
+use Rattle.jobset.proofs.Locks.{dispatched_by}
 use Rattle.jobset.proofs.put_segments.Statement.{statement}
 use Rattle.jobset.proofs.put_segments.Tie as tie
 
 abbrev invariant-loop : tie.invariant-loop
-invariant-loop words₀ ceilings i table first count base k₀ words k = (k ≤ count) × (count ≤ 8) × (first + count ≤ 64) × (words ≡ withSegments table i k words₀)
+invariant-loop words₀ ceilings i table first count base k₀ words k = (k ≤ count) × (count ≤ 8) × (first + count ≤ 64) × (words ≡ with_segments table i k words₀)
 
 abbrev decreases-loop : tie.decreases-loop
 decreases-loop words₀ ceilings i table first count base k₀ words k = count - k
@@ -28,13 +28,13 @@ element-copy-out-base : tie.Need-element-copy-out-base invariant-loop decreases-
 element-copy-out-base c = search rules
 
 loop-holds : tie.Need-loop-init invariant-loop decreases-loop
-unfolding withSegments
+unfolding with_segments
 loop-holds c =
     let entry = c.before.before.before in
     let sound = entry.requires.0 in (
       omega arith,
       (sound.job entry.args.i entry.requires.1).count_most,
-      omega (arith, last-number entry.args.t2 sound entry.args.i entry.requires.1, sound.segments-most),
+      omega (arith, last_number entry.args.t2 sound entry.args.i entry.requires.1, sound.segments_most),
       refl,
     )
 
@@ -83,14 +83,14 @@ loop-again c =
       omega (arith, turn.loop-test.true),
       inv.1,
       inv.2,
-      segments-more entry.args.t2 entry.args.i turn.before.loop.k _ _ _ _ inv.3
-          (dispatched-by entry.args.t2 entry.args.ceilings.now entry.args.i turn.before.loop.k _ entry.requires.2 dispatch.priority.ensures)
+      segments_more entry.args.t2 entry.args.i turn.before.loop.k _ _ _ _ inv.3
+          (dispatched_by entry.args.t2 entry.args.ceilings.now entry.args.i turn.before.loop.k _ entry.requires.2 dispatch.priority.ensures)
           c.put-segment.ensures,
     )
 
 returns : tie.Need-returns invariant-loop decreases-loop
 returns c =
-    segments-all c.before.before.before.before.before.args.t2 c.before.before.before.before.before.args.i _ _ _
+    segments_all c.before.before.before.before.before.args.t2 c.before.before.before.before.before.args.i _ _ _
     c.before.loop.invariant.0 c.loop-test.false c.before.loop.invariant.3
 
 pub put-segments-spec : {M : Type 1} → statement M

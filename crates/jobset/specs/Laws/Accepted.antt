@@ -7,13 +7,13 @@ use Rattle.std.proofs.Math.Path.{ap}
 use Rattle.table.specs.declared.Table.{Table}
 use Rattle.table.specs.Sound.{Sound}
 use Rattle.kernel.specs.Rules.{JobSet}
-use Rattle.kernel.specs.Jobs.{holds, locks, base_of, count_of, number_of, heldBy, userBase, ceiling, ceilings, dispatchedPriority, clipped, jobsOf}
+use Rattle.kernel.specs.Jobs.{holds, locks, base_of, count_of, number_of, held_by, user_base, ceiling, ceilings, dispatched_priority, clipped, jobs_of}
 use Rattle.kernel.specs.Laws.Tests.{split}
 use Rattle.kernel.specs.Laws.Control.{Lawful}
 use Rattle.kernel.specs.Jobs.{sum}
-use Rattle.kernel.specs.Laws.Sums.{sum-rises, sum_same}
-use Rattle.kernel.specs.Laws.Largest.{largest-le, if-most}
-use Rattle.jobset.specs.Laws.Clipped.{if-no-job, Agree, clipped-agrees}
+use Rattle.kernel.specs.Laws.Sums.{sum_rises, sum_same}
+use Rattle.kernel.specs.Laws.Largest.{largest_le, if_most}
+use Rattle.jobset.specs.Laws.Clipped.{if_no_job, Agree, clipped_agrees}
 
 -- the rows of a table, of which its job set is made
 abbrev pub rows_of : Table → JobSet
@@ -23,120 +23,120 @@ rows_of t = record {
   release = λ i. get_or t.release i 0;
   base = base_of t;
   segments = count_of t;
-  priority = dispatchedPriority t;
+  priority = dispatched_priority t;
   shortest = λ i k. get_or t.shortest (number_of t i k) 0;
   longest = λ i k. get_or t.longest (number_of t i k) 0;
 }
 
-pub job-set-agrees : (t : Table) → Agree (jobsOf t) (rows_of t)
-unfolding jobsOf
-job-set-agrees t = clipped-agrees (rows_of t)
+pub job_set_agrees : (t : Table) → Agree (jobs_of t) (rows_of t)
+unfolding jobs_of
+job_set_agrees t = clipped_agrees (rows_of t)
 
 module _ (t : Table) (S : Sound t) where
   -- ---- segments in table order
 
-  pub first-is : (i : ℕ) → i < t.jobs → get_or t.first i 0 ≡ sum (count_of t) i
+  pub first_is : (i : ℕ) → i < t.jobs → get_or t.first i 0 ≡ sum (count_of t) i
   unfolding sum
-  first-is zero h = S.first
-  first-is (suc i) h = S.next i h ∙ ap (λ (n : ℕ). n + count_of t i) (first-is i (omega arith))
+  first_is zero h = S.first
+  first_is (suc i) h = S.next i h ∙ ap (λ (n : ℕ). n + count_of t i) (first_is i (omega arith))
 
-  all-segments : (n : ℕ) → t.jobs ≡ n → sum (count_of t) n ≡ t.segments
+  all_segments : (n : ℕ) → t.jobs ≡ n → sum (count_of t) n ≡ t.segments
   unfolding sum
-  all-segments zero e = absurd (omega (arith, S.jobs-some))
-  all-segments (suc j) e = omega (arith, S.last j (sym e), first-is j (omega arith))
+  all_segments zero e = absurd (omega (arith, S.jobs_some))
+  all_segments (suc j) e = omega (arith, S.last j (sym e), first_is j (omega arith))
 
   -- the segments of a job end before those of a later one begin
-  pub earlier-number : (i n k : ℕ) → i < n → n < t.jobs → k < count_of t i → number_of t i k < get_or t.first n 0
+  pub earlier_number : (i n k : ℕ) → i < n → n < t.jobs → k < count_of t i → number_of t i k < get_or t.first n 0
   unfolding sum
-  earlier-number i n k h q z =
-      omega (arith, first-is i (omega arith), first-is n q, sum-rises (count_of t) (suc i) n h)
+  earlier_number i n k h q z =
+      omega (arith, first_is i (omega arith), first_is n q, sum_rises (count_of t) (suc i) n h)
 
-  pub last-number : (i : ℕ) → i < t.jobs → get_or t.first i 0 + count_of t i ≤ t.segments
+  pub last_number : (i : ℕ) → i < t.jobs → get_or t.first i 0 + count_of t i ≤ t.segments
   unfolding sum
-  last-number i h = omega (arith, first-is i h, sum-rises (count_of t) (suc i) t.jobs h, all-segments t.jobs refl)
+  last_number i h = omega (arith, first_is i h, sum_rises (count_of t) (suc i) t.jobs h, all_segments t.jobs refl)
 
-  number-inside : (i k : ℕ) → i < t.jobs → k < count_of t i → number_of t i k < t.segments
-  number-inside i k h q = omega (arith, last-number i h)
+  number_inside : (i k : ℕ) → i < t.jobs → k < count_of t i → number_of t i k < t.segments
+  number_inside i k h q = omega (arith, last_number i h)
 
   -- ---- releases
 
-  release-rises : (i j : ℕ) → i ≤ j → j < t.jobs → get_or t.release i 0 ≤ get_or t.release j 0
-  release-rises i zero h q = let e : i ≡ 0 = omega arith in rw e (omega arith)
-  release-rises i (suc j) h q = split i (suc j)
-      (λ (z : i < suc j). omega (arith, release-rises i j (omega arith) (omega arith), S.order j q))
+  release_rises : (i j : ℕ) → i ≤ j → j < t.jobs → get_or t.release i 0 ≤ get_or t.release j 0
+  release_rises i zero h q = let e : i ≡ 0 = omega arith in rw e (omega arith)
+  release_rises i (suc j) h q = split i (suc j)
+      (λ (z : i < suc j). omega (arith, release_rises i j (omega arith) (omega arith), S.order j q))
       (λ (z : suc j ≤ i). let e : i ≡ suc j = omega arith in rw e (omega arith))
 
   -- ---- priorities
 
-  user-most : (lock i : ℕ) → i < t.jobs → userBase t lock i ≤ 200
-  unfolding userBase
-  user-most lock i h = largest-le _ (count_of t i) 200 (λ k q. if-most (holds (heldBy t i k) lock) (base_of t i) 200 (S.job i h).base-most)
+  user_most : (lock i : ℕ) → i < t.jobs → user_base t lock i ≤ 200
+  unfolding user_base
+  user_most lock i h = largest_le _ (count_of t i) 200 (λ k q. if_most (holds (held_by t i k) lock) (base_of t i) 200 (S.job i h).base_most)
 
-  ceiling-most : (lock : ℕ) → ceiling t lock ≤ 201
+  ceiling_most : (lock : ℕ) → ceiling t lock ≤ 201
   unfolding ceiling
-  ceiling-most lock = omega (arith, largest-le (userBase t lock) t.jobs 200 (user-most lock))
+  ceiling_most lock = omega (arith, largest_le (user_base t lock) t.jobs 200 (user_most lock))
 
-  ceilings-most : (held : ℕ) → ceilings t held ≤ 201
+  ceilings_most : (held : ℕ) → ceilings t held ≤ 201
   unfolding ceilings
-  ceilings-most held = largest-le _ locks 201 (λ lock q. if-most (holds held lock) (ceiling t lock) 201 (ceiling-most lock))
+  ceilings_most held = largest_le _ locks 201 (λ lock q. if_most (holds held lock) (ceiling t lock) 201 (ceiling_most lock))
 
-  priority-most : (i k : ℕ) → i < t.jobs → dispatchedPriority t i k ≤ 201
-  unfolding dispatchedPriority
-  priority-most i k h = omega (arith, ceilings-most (heldBy t i k), (S.job i h).base-most)
+  priority_most : (i k : ℕ) → i < t.jobs → dispatched_priority t i k ≤ 201
+  unfolding dispatched_priority
+  priority_most i k h = omega (arith, ceilings_most (held_by t i k), (S.job i h).base_most)
 
-  priority-raised : (i k : ℕ) → base_of t i ≤ dispatchedPriority t i k
-  unfolding dispatchedPriority
-  priority-raised i k = omega arith
+  priority_raised : (i k : ℕ) → base_of t i ≤ dispatched_priority t i k
+  unfolding dispatched_priority
+  priority_raised i k = omega arith
 
   -- ---- the job set
 
-  in_row : (i k : ℕ) → i < t.jobs → k < (jobsOf t).segments i → k < count_of t i
-  in_row i k h q = omega (arith, (job-set-agrees t).segments i h)
+  in_row : (i k : ℕ) → i < t.jobs → k < (jobs_of t).segments i → k < count_of t i
+  in_row i k h q = omega (arith, (job_set_agrees t).segments i h)
 
-  pub accepted-lawful : Lawful (jobsOf t)
-  unfolding jobsOf clipped
-  accepted-lawful =
-      let A = job-set-agrees t in
+  pub accepted_lawful : Lawful (jobs_of t)
+  unfolding jobs_of clipped
+  accepted_lawful =
+      let A = job_set_agrees t in
       record {
-        sorted = λ i j h q. omega (arith, A.release i (omega arith), A.release j q, release-rises i j h q);
+        sorted = λ i j h q. omega (arith, A.release i (omega arith), A.release j q, release_rises i j h q);
         raised = λ i k h q.
             let z : k < count_of t i = in_row i k h q in
-            omega (arith, A.base i h, A.priority i k h z, priority-raised i k);
+            omega (arith, A.base i h, A.priority i k h z, priority_raised i k);
         positive = λ i k h q.
             let z : k < count_of t i = in_row i k h q in
-            omega (arith, A.shortest i k h z, (S.segment (number_of t i k) (number-inside i k h z)).some);
+            omega (arith, A.shortest i k h z, (S.segment (number_of t i k) (number_inside i k h z)).some);
         ordered = λ i k h q.
             let z : k < count_of t i = in_row i k h q in
-            omega (arith, A.shortest i k h z, A.longest i k h z, (S.segment (number_of t i k) (number-inside i k h z)).order);
-        none-released = if-no-job t.jobs (rows_of t).release t.jobs (omega arith);
-        none-segments = if-no-job t.jobs (count_of t) t.jobs (omega arith);
+            omega (arith, A.shortest i k h z, A.longest i k h z, (S.segment (number_of t i k) (number_inside i k h z)).order);
+        none_released = if_no_job t.jobs (rows_of t).release t.jobs (omega arith);
+        none_segments = if_no_job t.jobs (count_of t) t.jobs (omega arith);
         worker = 0;
-        worker-inside = S.jobs-some;
-        worker-some = omega (arith, A.segments 0 S.jobs-some, (S.job 0 S.jobs-some).count-some);
+        worker_inside = S.jobs_some;
+        worker_some = omega (arith, A.segments 0 S.jobs_some, (S.job 0 S.jobs_some).count_some);
       }
 
   -- the number of a job's first segment: how many come before it
-  pub accepted-first : (i : ℕ) → i < t.jobs → get_or t.first i 0 ≡ sum (jobsOf t).segments i
-  accepted-first i h = first-is i h ∙ sum_same (count_of t) (jobsOf t).segments i (λ j q. sym ((job-set-agrees t).segments j (omega arith)))
+  pub accepted_first : (i : ℕ) → i < t.jobs → get_or t.first i 0 ≡ sum (jobs_of t).segments i
+  accepted_first i h = first_is i h ∙ sum_same (count_of t) (jobs_of t).segments i (λ j q. sym ((job_set_agrees t).segments j (omega arith)))
 
-  pub accepted-segments : sum (jobsOf t).segments t.jobs ≤ 64
-  accepted-segments = omega (
+  pub accepted_segments : sum (jobs_of t).segments t.jobs ≤ 64
+  accepted_segments = omega (
     arith,
-    sum_same (count_of t) (jobsOf t).segments t.jobs (λ j q. sym ((job-set-agrees t).segments j q)),
-    all-segments t.jobs refl,
-    S.segments-most,
+    sum_same (count_of t) (jobs_of t).segments t.jobs (λ j q. sym ((job_set_agrees t).segments j q)),
+    all_segments t.jobs refl,
+    S.segments_most,
   )
 
-  pub accepted-release : (i : ℕ) → i < t.jobs → (jobsOf t).release i < t.frame
-  accepted-release i h = omega (arith, (job-set-agrees t).release i h, (S.job i h).released)
+  pub accepted_release : (i : ℕ) → i < t.jobs → (jobs_of t).release i < t.frame
+  accepted_release i h = omega (arith, (job_set_agrees t).release i h, (S.job i h).released)
 
-  pub accepted-base : (i : ℕ) → i < t.jobs → (jobsOf t).base i ≤ 200
-  accepted-base i h = omega (arith, (job-set-agrees t).base i h, (S.job i h).base-most)
+  pub accepted_base : (i : ℕ) → i < t.jobs → (jobs_of t).base i ≤ 200
+  accepted_base i h = omega (arith, (job_set_agrees t).base i h, (S.job i h).base_most)
 
-  pub accepted-priority : (i k : ℕ) → i < t.jobs → k < (jobsOf t).segments i → (jobsOf t).priority i k ≤ 201
-  accepted-priority i k h q = omega (arith, (job-set-agrees t).priority i k h (in_row i k h q), priority-most i k h)
+  pub accepted_priority : (i k : ℕ) → i < t.jobs → k < (jobs_of t).segments i → (jobs_of t).priority i k ≤ 201
+  accepted_priority i k h q = omega (arith, (job_set_agrees t).priority i k h (in_row i k h q), priority_most i k h)
 
-  pub accepted-times : (i k : ℕ) → i < t.jobs → k < (jobsOf t).segments i → (jobsOf t).longest i k ≤ 1000000
-  accepted-times i k h q =
+  pub accepted_times : (i k : ℕ) → i < t.jobs → k < (jobs_of t).segments i → (jobs_of t).longest i k ≤ 1000000
+  accepted_times i k h q =
       let z : k < count_of t i = in_row i k h q in
-      omega (arith, (job-set-agrees t).longest i k h z, (S.segment (number_of t i k) (number-inside i k h z)).most)
+      omega (arith, (job_set_agrees t).longest i k h z, (S.segment (number_of t i k) (number_inside i k h z)).most)

@@ -7,12 +7,12 @@ use lib.ListN.{length}
 use lib.Seq.{sets, length-sets}
 use borrow.Author.Rules.{rules}
 use Rattle.kernel.specs.Rules.{dispatched}
-use Rattle.kernel.specs.Words.{setOf}
-use Rattle.kernel.specs.Code.{Released, settled, noteWords, lastWords, tickStep}
+use Rattle.kernel.specs.Words.{set_of}
+use Rattle.kernel.specs.Code.{Released, settled, note_words, last_words, tick_step}
 use Rattle.kernel.specs.declared.state.State.{State}
-use Rattle.kernel.proofs.Release.{none-released, ended-job}
-use Rattle.kernel.proofs.Going.{start, stopped, few-segments, settled-yes, settled-no, same-releases}
-use Rattle.kernel.proofs.Turn.{Loop, Turn, few-switches, ending, idling, small-job, runs_on, starts, loop-same}
+use Rattle.kernel.proofs.Release.{none_released, ended_job}
+use Rattle.kernel.proofs.Going.{start, stopped, few_segments, settled_yes, settled_no, same_releases}
+use Rattle.kernel.proofs.Turn.{Loop, Turn, few_switches, ending, idling, small_job, runs_on, starts, loop_same}
 use Rattle.kernel.proofs.run.Reads as reads
 use Rattle.kernel.proofs.run.Lts as lts
 use Rattle.kernel.proofs.jobs.frame.Reads as frame-reads
@@ -93,8 +93,8 @@ module _ (c : lts.After-dispatched calls reads.Pre reads.Post invariant-loop dec
   -- 1. the segment that has had its time has ended
   ended-first : first ≡ settled w times at-loop.loop.tick at-loop.loop.state
   ended-first = ⊎_elim
-      (λ e. settled-yes w times at-loop.loop.inv.runs _ _ _ (sym tests.before.ended.ensures ∙ e.0.taken) (e.2 ∙ e.1.ensures))
-      (λ e. settled-no w times at-loop.loop.inv.runs _ _ _ (sym tests.before.ended.ensures ∙ e.0.left) e.1)
+      (λ e. settled_yes w times at-loop.loop.inv.runs _ _ _ (sym tests.before.ended.ensures ∙ e.0.taken) (e.2 ∙ e.1.ensures))
+      (λ e. settled_no w times at-loop.loop.inv.runs _ _ _ (sym tests.before.ended.ensures ∙ e.0.left) e.1)
       c.before.before.if1.branch
 
   -- 2. the jobs of the tick are released
@@ -102,8 +102,8 @@ module _ (c : lts.After-dispatched calls reads.Pre reads.Post invariant-loop dec
   then-released = ⊎_elim
       (λ e. subst (Released w at-loop.loop.tick first) (sym e.2) e.1.ensures)
       (λ e. subst (Released w at-loop.loop.tick first) (sym e.1) (record {
-        some = none-released _ _ _;
-        done = same-releases w times at-loop.loop.inv.runs _ at-loop.loop.state first ended-first ∙ sym tests.releases.ensures ∙ e.0.left;
+        some = none_released _ _ _;
+        done = same_releases w times at-loop.loop.inv.runs _ at-loop.loop.state first ended-first ∙ sym tests.releases.ensures ∙ e.0.left;
       }))
       c.before.if2.branch
 
@@ -116,7 +116,7 @@ module _ (c : lts.After-dispatched calls reads.Pre reads.Post invariant-loop dec
   }
 
   -- another job than none
-  some : (c.dispatched.result ≡ at-loop.before.before.jobs.result → ⊥) → c.dispatched.result ≡ (setOf entry.args.set.now).jobs → ⊥
+  some : (c.dispatched.result ≡ at-loop.before.before.jobs.result → ⊥) → c.dispatched.result ≡ (set_of entry.args.set.now).jobs → ⊥
   some n e = n (e ∙ sym at-loop.before.before.jobs.ensures)
 
 frame-requires : tie.Need-frame-requires invariant-loop decreases-loop
@@ -143,8 +143,8 @@ end-segment-requires : tie.Need-end-segment-requires invariant-loop decreases-lo
 end-segment-requires c κs =
     let loop = c.before.before.before.before in
     let runs = loop.loop.invariant.runs in
-    let inside = ended-job _ loop.loop.state (sym c.before.before.ended.ensures ∙ c.if1.true) in
-    (runs.loaded, omega (arith, inside, runs.loaded.few-jobs), few-segments _ _ runs _ _ _ _ _ loop.loop.invariant.going inside)
+    let inside = ended_job _ loop.loop.state (sym c.before.before.ended.ensures ∙ c.if1.true) in
+    (runs.loaded, omega (arith, inside, runs.loaded.few_jobs), few_segments _ _ runs _ _ _ _ _ loop.loop.invariant.going inside)
 
 release-requires : tie.Need-release-requires invariant-loop decreases-loop
 release-requires c κs = c.before.before.before.before.before.loop.invariant.runs.loaded
@@ -156,13 +156,13 @@ none-from-requires : tie.Need-none-from-requires invariant-loop decreases-loop
 none-from-requires c κs = search rules
 
 last-requires : tie.Need-last-requires invariant-loop decreases-loop
-last-requires c κs = few-switches (turn c.before.before.before.before)
+last-requires c κs = few_switches (turn c.before.before.before.before)
 
 same_length : tie.Need-same-length invariant-loop decreases-loop
 same_length c =
     let last = c.before.before in
     let d = last.before.before.before.before.before in
-    ap length last.last.ensures.1 ∙ length-sets _ _ (lastWords d.before.if2.state.due) ∙ (turn d).loop.size
+    ap length last.last.ensures.1 ∙ length-sets _ _ (last_words d.before.if2.state.due) ∙ (turn d).loop.size
 
 returns : tie.Need-returns invariant-loop decreases-loop
 returns c =
@@ -179,20 +179,20 @@ run-tick-requires c κs =
 cast-note : tie.Need-overflow-cast-note invariant-loop decreases-loop
 cast-note c =
     let d = c.before.before.before.before in
-    omega (arith, small-job (turn d) (some d c.before.before.before.if3.false))
+    omega (arith, small_job (turn d) (some d c.before.before.before.if3.false))
 
 present-requires : tie.Need-present-requires invariant-loop decreases-loop
 present-requires c κs =
     let d = c.before.before.before.before in
-    small-job (turn d) (some d c.before.before.before.if3.false)
+    small_job (turn d) (some d c.before.before.before.if3.false)
 
 note-requires : tie.Need-note-requires invariant-loop decreases-loop
-note-requires c κs = few-switches (turn c.before.before.before.before.before)
+note-requires c κs = few_switches (turn c.before.before.before.before.before)
 
 dispatch-requires : tie.Need-dispatch-requires invariant-loop decreases-loop
 dispatch-requires c κs =
     let d = c.before.before.before.before.before.before.before.before in
-    ((turn d).loop.runs.loaded, small-job (turn d) (some d c.before.before.before.before.before.before.before.if3.false))
+    ((turn d).loop.runs.loaded, small_job (turn d) (some d c.before.before.before.before.before.before.before.if3.false))
 
 run-tick-requires-2 : tie.Need-run-tick-requires-2 invariant-loop decreases-loop
 run-tick-requires-2 c κs =
@@ -202,7 +202,7 @@ run-tick-requires-2 c κs =
 add-tick : tie.Need-overflow-add-tick invariant-loop decreases-loop
 add-tick c =
     let loop = at-loop c.before in
-    omega (arith, (tests c.before).before.before.loop-test.taken, loop.before.before.before.frame.ensures, loop.loop.inv.runs.loaded.small-frame)
+    omega (arith, (tests c.before).before.before.loop-test.taken, loop.before.before.before.frame.ensures, loop.loop.inv.runs.loaded.small_frame)
 
 loop-less : tie.Need-loop-smaller invariant-loop decreases-loop
 loop-less c = omega (arith, (tests c.before).before.before.loop-test.taken)
@@ -212,12 +212,12 @@ loop-again c =
     let d = c.before in
     let jobs = (at-loop d).before.before.jobs.ensures in
     ⊎_elim
-    (λ w. loop-same (idling (turn d) (w.0.taken ∙ jobs) w.1.result w.1.ensures w.2.left) w.3 w.4 w.5)
+    (λ w. loop_same (idling (turn d) (w.0.taken ∙ jobs) w.1.result w.1.ensures w.2.left) w.3 w.4 w.5)
     (⊎_elim
-    (λ w. loop-same (runs_on (turn d) (some d w.0.left) w.2.taken).1 w.4 (w.5 ∙ w.3.ensures) w.6)
-    (λ w. loop-same (starts (turn d) (some d w.0.left) w.2.left).1
-    (w.10 ∙ w.5.ensures.1 ∙ ap (λ (k : ℕ). sets (at-loop d).loop.log (4 * (at-loop d).loop.count) (noteWords d.before.if2.state.due (at-loop d).loop.tick d.dispatched.result k)) w.4.ensures)
-    (w.11 ∙ w.9.ensures ∙ ap tickStep w.8.ensures)
+    (λ w. loop_same (runs_on (turn d) (some d w.0.left) w.2.taken).1 w.4 (w.5 ∙ w.3.ensures) w.6)
+    (λ w. loop_same (starts (turn d) (some d w.0.left) w.2.left).1
+    (w.10 ∙ w.5.ensures.1 ∙ ap (λ (k : ℕ). sets (at-loop d).loop.log (4 * (at-loop d).loop.count) (note_words d.before.if2.state.due (at-loop d).loop.tick d.dispatched.result k)) w.4.ensures)
+    (w.11 ∙ w.9.ensures ∙ ap tick_step w.8.ensures)
     (w.12 ∙ w.5.ensures.0)))
     c.if3.branch
 

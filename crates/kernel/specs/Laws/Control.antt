@@ -3,7 +3,7 @@ use Rattle.std.specs.Prelude.{◌≡◌, Bool, true, false, cond, ℕ, suc, ◌+
 use Rattle.std.proofs.Common.{arith}
 use Rattle.kernel.specs.Rules.{JobSet, Progress, put, begun, Within}
 use Rattle.kernel.specs.Laws.Tests.{iflt, if-ge}
-use Rattle.kernel.specs.Laws.Pick.{pick, next, firstAbove, Released}
+use Rattle.kernel.specs.Laws.Pick.{pick, next, first_above, Released}
 
 -- The laws of the job set of a table. The job number that stands for none has nothing.
 pub record Lawful (J : JobSet) : Type 0 where
@@ -11,26 +11,26 @@ pub record Lawful (J : JobSet) : Type 0 where
   pub raised : (i k : ℕ) → i < J.jobs → k < J.segments i → J.base i ≤ J.priority i k
   pub positive : (i k : ℕ) → i < J.jobs → k < J.segments i → 1 ≤ J.shortest i k
   pub ordered : (i k : ℕ) → i < J.jobs → k < J.segments i → J.shortest i k ≤ J.longest i k
-  pub none-released : J.release J.jobs ≡ 0
-  pub none-segments : J.segments J.jobs ≡ 0
+  pub none_released : J.release J.jobs ≡ 0
+  pub none_segments : J.segments J.jobs ≡ 0
   pub worker : ℕ
-  pub worker-inside : worker < J.jobs
-  pub worker-some : 0 < J.segments worker
+  pub worker_inside : worker < J.jobs
+  pub worker_some : 0 < J.segments worker
 
 -- every segment takes at least one tick
 abbrev pub Positive : JobSet → (ℕ → ℕ → ℕ) → Type 0
 Positive J time = (i k : ℕ) → i < J.jobs → k < J.segments i → 1 ≤ time i k
 
-pub positive-times : (J : JobSet) → Lawful J → (time : ℕ → ℕ → ℕ) → Within J time → Positive J time
-positive-times J L time W i k h q = omega (arith, L.positive i k h q, W.low i k h q)
+pub positive_times : (J : JobSet) → Lawful J → (time : ℕ → ℕ → ℕ) → Within J time → Positive J time
+positive_times J L time W i k h q = omega (arith, L.positive i k h q, W.low i k h q)
 
 -- of each job: its present segment, and whether it has begun
 pub record Control : Type 0 where
   pub segment : ℕ → ℕ
   pub begun : ℕ → Bool
 
-abbrev pub controlOf : Progress → Control
-controlOf p = record { segment = p.segment; begun = begun p }
+abbrev pub control_of : Progress → Control
+control_of p = record { segment = p.segment; begun = begun p }
 
 -- the running job leaves its segment
 unfoldable pub leave : Control → ℕ → Control
@@ -45,9 +45,9 @@ unfoldable pub weight : JobSet → Control → ℕ → ℕ
 weight J κ i = iflt (κ.segment i) (J.segments i) (cond (κ.begun i) (2 * J.priority i (κ.segment i) + 2) (2 * J.base i + 1)) 0
 
 -- that of an unfinished job is not 0
-pub weight-pos : (b : Bool) (priority base : ℕ) → 0 < cond b (2 * priority + 2) (2 * base + 1)
-weight-pos true p x = omega arith
-weight-pos false p x = omega arith
+pub weight_pos : (b : Bool) (priority base : ℕ) → 0 < cond b (2 * priority + 2) (2 * base + 1)
+weight_pos true p x = omega arith
+weight_pos false p x = omega arith
 
 module _ (J : JobSet) (κ : Control) where
   -- the job dispatched at a tick, by weight
@@ -59,13 +59,13 @@ module _ (J : JobSet) (κ : Control) where
   after t = next J.jobs J.release (weight J κ) t
 
   -- the tick at which it starts or resumes
-  abbrev pub startAfter : ℕ → ℕ
-  startAfter t = max t (J.release (after t))
+  abbrev pub start_after : ℕ → ℕ
+  start_after t = max t (J.release (after t))
 
   -- the first release after a, before e, of a job of weight above w; else e
   abbrev pub above : (a w e : ℕ) → ℕ
-  above a w e = firstAbove J.jobs J.release (weight J κ) a w e
+  above a w e = first_above J.jobs J.release (weight J κ) a w e
 
 pub released : (J : JobSet) → Lawful J → (κ : Control) → Released J.jobs J.release (weight J κ)
 unfolding weight
-released J L κ = record { sorted = L.sorted; r-n = L.none-released; v-n = if-ge _ _ _ _ (omega (arith, L.none-segments)) }
+released J L κ = record { sorted = L.sorted; r_n = L.none_released; v_n = if-ge _ _ _ _ (omega (arith, L.none_segments)) }

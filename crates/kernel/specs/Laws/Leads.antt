@@ -2,8 +2,8 @@
 use Rattle.std.specs.Prelude.{◌≡◌, true, false, cond, List, [], ◌++◌, ℕ, zero, suc}
 use Rattle.std.proofs.Math.Path.{refl}
 use Rattle.std.proofs.Common.{sym, ap, ◌∙◌, append_assoc, arith}
-use Rattle.kernel.specs.Rules.{JobSet, Run, Switch, runTick, switchAt, lastSwitch, over, endSegment, switches, ends}
-use Rattle.kernel.specs.Laws.Ticks.{after_end, end-cases, end_none}
+use Rattle.kernel.specs.Rules.{JobSet, Run, Switch, run_tick, switch_at, last_switch, over, end_segment, switches, ends}
+use Rattle.kernel.specs.Laws.Ticks.{after_end, end_cases, end_none}
 
 module _ (J : JobSet) (time : ℕ → ℕ → ℕ) where
   -- wherever the run from r on ends, so does that from r' on, and the switches in l come first
@@ -15,66 +15,66 @@ module _ (J : JobSet) (time : ℕ → ℕ → ℕ) where
   pub record Closes (l : List Switch) (t : ℕ) (r : Run) : Type 0 where
     pub all : (n : ℕ) → ends J time n t r ≡ true → switches J time n t r ≡ l
 
-  pub leads-none : (t : ℕ) (r : Run) → Leads [] t r t r
-  leads-none t r = record { on = λ n h. (n, h, refl) }
+  pub leads_none : (t : ℕ) (r : Run) → Leads [] t r t r
+  leads_none t r = record { on = λ n h. (n, h, refl) }
 
-  pub leads-leads : {l m : List Switch} {t t' t'' : ℕ} {r r' r'' : Run} → Leads l t r t' r' → Leads m t' r' t'' r'' → Leads (l ++ m) t r t'' r''
-  leads-leads {l} {m} f g = record {
+  pub leads_leads : {l m : List Switch} {t t' t'' : ℕ} {r r' r'' : Run} → Leads l t r t' r' → Leads m t' r' t'' r'' → Leads (l ++ m) t r t'' r''
+  leads_leads {l} {m} f g = record {
     on = λ n h.
         let (a, b, c) = f.on n h in
         let (a', b', c') = g.on a b in
         (a', b', c ∙ ap (λ (x : List Switch). l ++ x) c' ∙ sym (append_assoc l m _));
   }
 
-  pub leads-closes : {l m : List Switch} {t t' : ℕ} {r r' : Run} → Leads l t r t' r' → Closes m t' r' → Closes (l ++ m) t r
-  leads-closes {l} f g = record { all = λ n h. let (a, b, c) = f.on n h in c ∙ ap (λ (x : List Switch). l ++ x) (g.all a b) }
+  pub leads_closes : {l m : List Switch} {t t' : ℕ} {r r' : Run} → Leads l t r t' r' → Closes m t' r' → Closes (l ++ m) t r
+  leads_closes {l} f g = record { all = λ n h. let (a, b, c) = f.on n h in c ∙ ap (λ (x : List Switch). l ++ x) (g.all a b) }
 
   -- ---- one tick, where e is the run after the end of a segment
 
-  module _ (t : ℕ) (r e : Run) (q : endSegment J time t r ≡ e) where
-    ends-none : ends J time zero t r ≡ false
+  module _ (t : ℕ) (r e : Run) (q : end_segment J time t r ≡ e) where
+    ends_none : ends J time zero t r ≡ false
     unfolding ends
-    ends-none = refl
+    ends_none = refl
 
-    pub ends_some : (n : ℕ) → ends J time (suc n) t r ≡ cond (over J e) true (ends J time n (suc t) (runTick J t e))
+    pub ends_some : (n : ℕ) → ends J time (suc n) t r ≡ cond (over J e) true (ends J time n (suc t) (run_tick J t e))
     ends_some n = rw (← q) (unfold ends in refl)
 
-    pub switches-some : (n : ℕ) → switches J time (suc n) t r
-        ≡ cond (over J e) (lastSwitch J e.due) (switchAt J t e ++ switches J time n (suc t) (runTick J t e))
-    switches-some n = rw (← q) (unfold switches in refl)
+    pub switches_some : (n : ℕ) → switches J time (suc n) t r
+        ≡ cond (over J e) (last_switch J e.due) (switch_at J t e ++ switches J time n (suc t) (run_tick J t e))
+    switches_some n = rw (← q) (unfold switches in refl)
 
-    pub leads-tick : over J e ≡ false → Leads (switchAt J t e) t r (suc t) (runTick J t e)
-    leads-tick o = record { on = go }
+    pub leads_tick : over J e ≡ false → Leads (switch_at J t e) t r (suc t) (run_tick J t e)
+    leads_tick o = record { on = go }
       where
         go : (n : ℕ) → ends J time n t r ≡ true
-            → (n' : ℕ) × (ends J time n' (suc t) (runTick J t e) ≡ true)
-            × (switches J time n t r ≡ switchAt J t e ++ switches J time n' (suc t) (runTick J t e))
-        go zero h = absurd (let z : ◌≡◌ {A = ℕ} 0 1 = cc ends-none in omega arith)
-        go (suc n) h = (n, rw (ends_some n, o) at h, rw (switches-some n, o))
+            → (n' : ℕ) × (ends J time n' (suc t) (run_tick J t e) ≡ true)
+            × (switches J time n t r ≡ switch_at J t e ++ switches J time n' (suc t) (run_tick J t e))
+        go zero h = absurd (let z : ◌≡◌ {A = ℕ} 0 1 = cc ends_none in omega arith)
+        go (suc n) h = (n, rw (ends_some n, o) at h, rw (switches_some n, o))
 
-    pub closes-tick : over J e ≡ true → Closes (lastSwitch J e.due) t r
-    closes-tick o = record { all = go }
+    pub closes_tick : over J e ≡ true → Closes (last_switch J e.due) t r
+    closes_tick o = record { all = go }
       where
-        go : (n : ℕ) → ends J time n t r ≡ true → switches J time n t r ≡ lastSwitch J e.due
-        go zero h = absurd (let z : ◌≡◌ {A = ℕ} 0 1 = cc ends-none in omega arith)
-        go (suc n) h = rw (switches-some n, o)
+        go : (n : ℕ) → ends J time n t r ≡ true → switches J time n t r ≡ last_switch J e.due
+        go zero h = absurd (let z : ◌≡◌ {A = ℕ} 0 1 = cc ends_none in omega arith)
+        go (suc n) h = rw (switches_some n, o)
 
   -- what a tick does first may be done before it
-  end-twice : (t : ℕ) (r : Run) → endSegment J time t (endSegment J time t r) ≡ endSegment J time t r
-  end-twice t r = end-cases J time t r
+  end_twice : (t : ℕ) (r : Run) → end_segment J time t (end_segment J time t r) ≡ end_segment J time t r
+  end_twice t r = end_cases J time t r
       (λ h a e. rw e (end_none J time t (after_end J t r) (omega arith)))
-      (λ n e. ap (endSegment J time t) e)
+      (λ n e. ap (end_segment J time t) e)
 
-  pub leads-end : (t : ℕ) (r : Run) → Leads [] t r t (endSegment J time t r)
-  leads-end t r = record { on = go }
+  pub leads_end : (t : ℕ) (r : Run) → Leads [] t r t (end_segment J time t r)
+  leads_end t r = record { on = go }
     where
       e : Run
-      e = endSegment J time t r
+      e = end_segment J time t r
 
       go : (n : ℕ) → ends J time n t r ≡ true → (n' : ℕ) × (ends J time n' t e ≡ true) × (switches J time n t r ≡ switches J time n' t e)
-      go zero h = absurd (let z : ◌≡◌ {A = ℕ} 0 1 = cc (ends-none t r e refl) in omega arith)
+      go zero h = absurd (let z : ◌≡◌ {A = ℕ} 0 1 = cc (ends_none t r e refl) in omega arith)
       go (suc n) h = (
         suc n,
-        ends_some t e e (end-twice t r) n ∙ sym (ends_some t r e refl n) ∙ h,
-        switches-some t r e refl n ∙ sym (switches-some t e e (end-twice t r) n),
+        ends_some t e e (end_twice t r) n ∙ sym (ends_some t r e refl n) ∙ h,
+        switches_some t r e refl n ∙ sym (switches_some t e e (end_twice t r) n),
       )

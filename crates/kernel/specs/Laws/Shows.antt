@@ -4,13 +4,13 @@ use Rattle.std.proofs.Math.Path.{sym, ap}
 use Rattle.std.proofs.Common.{◌∙◌, arith, get_or-set_same, get_or-set_other, lt-ltb, le-ltb, eq-eqb, ne_eqb}
 use Rattle.std.proofs.Math.Decide.{ℕ_discrete}
 use Rattle.std.proofs.Math.ListN.{get_or, length-set}
-use Rattle.kernel.specs.Rules.{JobSet, Progress, begun, put, cutting, leaving, Run, nextSegment, fresh, leaveKind}
-use Rattle.kernel.specs.Words.{setOf, Loaded}
-use Rattle.kernel.specs.Code.{kind_of, dueOf, weightAt, timeAt, leaveKindAt, Fresh, endStep}
+use Rattle.kernel.specs.Rules.{JobSet, Progress, begun, put, cutting, leaving, Run, next_segment, fresh, leave_kind}
+use Rattle.kernel.specs.Words.{set_of, Loaded}
+use Rattle.kernel.specs.Code.{kind_of, due_of, weight_at, time_at, leave_kind_at, Fresh, end_step}
 use Rattle.kernel.specs.Laws.Tests.{split}
 use Rattle.kernel.specs.Laws.Places.{put_same, put_other}
-use Rattle.kernel.specs.Laws.Control.{controlOf, weight, Positive}
-use Rattle.kernel.specs.Laws.Key.{keyOf}
+use Rattle.kernel.specs.Laws.Control.{control_of, weight, Positive}
+use Rattle.kernel.specs.Laws.Key.{key_of}
 use Rattle.kernel.specs.Laws.Ticks.{after_end}
 use Rattle.kernel.specs.declared.state.State.{State}
 
@@ -21,31 +21,31 @@ or_right true = refl
 or_right false = refl
 
 -- a job that has a tick has begun
-pub had-begun : (p : Progress) (i : ℕ) → 1 ≤ p.had i → begun p i ≡ true
-had-begun p i h = rw (lt-ltb 0 (p.had i) h) (or_right (ltb 0 (p.segment i)))
+pub had_begun : (p : Progress) (i : ℕ) → 1 ≤ p.had i → begun p i ≡ true
+had_begun p i h = rw (lt-ltb 0 (p.had i) h) (or_right (ltb 0 (p.segment i)))
 
 -- and so has one that has left a segment
-left-begun : (p : Progress) (i : ℕ) → 1 ≤ p.segment i → begun p i ≡ true
-left-begun p i h = rw (lt-ltb 0 (p.segment i) h)
+left_begun : (p : Progress) (i : ℕ) → 1 ≤ p.segment i → begun p i ≡ true
+left_begun p i h = rw (lt-ltb 0 (p.segment i) h)
 
 module _ (J : JobSet) (p : Progress) (i : ℕ) where
-  pub weight-begun : begun p i ≡ true → weight J (controlOf p) i ≡ weightAt J i (p.segment i) true
+  pub weight_begun : begun p i ≡ true → weight J (control_of p) i ≡ weight_at J i (p.segment i) true
   unfolding weight
-  weight-begun b = rw b
+  weight_begun b = rw b
 
-  pub weight-fresh : p.segment i ≡ 0 → p.had i ≡ 0 → weight J (controlOf p) i ≡ weightAt J i 0 false
+  pub weight_fresh : p.segment i ≡ 0 → p.had i ≡ 0 → weight J (control_of p) i ≡ weight_at J i 0 false
   unfolding weight
-  weight-fresh a b = rw (a, b)
+  weight_fresh a b = rw (a, b)
 
 -- it depends on the job's own segment and ticks alone
-pub weight-same : (J : JobSet) (p q : Progress) (i : ℕ) → p.segment i ≡ q.segment i → p.had i ≡ q.had i → weight J (controlOf p) i ≡ weight J (controlOf q) i
+pub weight_same : (J : JobSet) (p q : Progress) (i : ℕ) → p.segment i ≡ q.segment i → p.had i ≡ q.had i → weight J (control_of p) i ≡ weight J (control_of q) i
 unfolding weight
-weight-same J p q i a b = rw (a, b)
+weight_same J p q i a b = rw (a, b)
 
 -- ---- an array changed at one place is the function changed there
 
-set-put : (l : List ℕ) (f : ℕ → ℕ) (n j v : ℕ) → ((i : ℕ) → i < n → get_or l i 0 ≡ f i) → j < length l → (i : ℕ) → i < n → get_or (set l j v) i 0 ≡ put f j v i
-set-put l f n j v h q i l' = elim (ℕ_discrete i j) [
+set_put : (l : List ℕ) (f : ℕ → ℕ) (n j v : ℕ) → ((i : ℕ) → i < n → get_or l i 0 ≡ f i) → j < length l → (i : ℕ) → i < n → get_or (set l j v) i 0 ≡ put f j v i
+set_put l f n j v h q i l' = elim (ℕ_discrete i j) [
   | yes e ↦ rw (e, put_same f j v) (get_or-set_same l j v 0 q)
   | no e ↦ get_or-set_other l j i v 0 e ∙ h i l' ∙ sym (put_other f j v i e)
 ]
@@ -61,33 +61,33 @@ module _ (J : JobSet) (time : ℕ → ℕ → ℕ) where
     -- of an unfinished job that does not run, something is left
     pub rest : (i : ℕ) → i < J.jobs → i ≢ r.running → r.progress.segment i < J.segments i → get_or s.rest i 0 + r.progress.had i ≡ time i (r.progress.segment i)
     pub some : (i : ℕ) → i < J.jobs → i ≢ r.running → r.progress.segment i < J.segments i → r.progress.had i < time i (r.progress.segment i)
-    pub key : (i : ℕ) → i < s.released → get_or s.key i 0 ≡ keyOf (weight J (controlOf r.progress) i) i
+    pub key : (i : ℕ) → i < s.released → get_or s.key i 0 ≡ key_of (weight J (control_of r.progress) i) i
     pub no_key : (i : ℕ) → s.released ≤ i → get_or s.key i 0 ≡ 0
     pub released : s.released ≤ J.jobs
     -- a job that is not released has not begun
     pub idle : (i : ℕ) → s.released ≤ i → i < J.jobs → (r.progress.segment i ≡ 0) × (r.progress.had i ≡ 0)
     pub running : s.running ≡ r.running
     pub inside : r.running ≤ J.jobs
-    pub due : dueOf s.due ≡ r.due
+    pub due : due_of s.due ≡ r.due
     -- the running job is released and unfinished, and has had a tick
     pub left : r.running < J.jobs → s.left + r.progress.had r.running ≡ time r.running (r.progress.segment r.running)
     pub on : r.running < J.jobs → (r.running < s.released) × (r.progress.segment r.running < J.segments r.running) × (1 ≤ r.progress.had r.running)
     pub mid : r.running < J.jobs → r.due ≡ cutting
 
-module _ (w times : List ℕ) (L : Loaded w) (time : ℕ → ℕ → ℕ) (positive : Positive (setOf w) time)
-    (same : (i k : ℕ) → i < (setOf w).jobs → timeAt w times i k ≡ time i k) where
+module _ (w times : List ℕ) (L : Loaded w) (time : ℕ → ℕ → ℕ) (positive : Positive (set_of w) time)
+    (same : (i k : ℕ) → i < (set_of w).jobs → time_at w times i k ≡ time i k) where
   abbrev J : JobSet
-  J = setOf w
+  J = set_of w
 
   -- ---- at the start
 
-  pub shows-fresh : (s : State) → Fresh w times s → Shows J time s (fresh J)
-  shows-fresh s F = record {
+  pub shows_fresh : (s : State) → Fresh w times s → Shows J time s (fresh J)
+  shows_fresh s F = record {
     segments = F.segments;
     rests = F.rests;
     keys = F.keys;
     segment = λ i h. F.segment i;
-    rest = λ i h n l. omega (arith, F.rest i (omega (arith, L.few-jobs)), same i 0 h);
+    rest = λ i h n l. omega (arith, F.rest i (omega (arith, L.few_jobs)), same i 0 h);
     some = λ i h n l. positive i 0 h l;
     key = λ i h. absurd (omega (arith, F.released));
     no_key = λ i h. F.key i;
@@ -95,7 +95,7 @@ module _ (w times : List ℕ) (L : Loaded w) (time : ℕ → ℕ → ℕ) (posit
     idle = λ i h l. (refl, refl);
     running = F.running;
     inside = omega arith;
-    due = ap dueOf F.due;
+    due = ap due_of F.due;
     left = λ h. absurd (omega arith);
     on = λ h. absurd (omega arith);
     mid = λ h. absurd (omega arith);
@@ -111,38 +111,38 @@ module _ (w times : List ℕ) (L : Loaded w) (time : ℕ → ℕ → ℕ) (posit
     p = r.progress
 
     abbrev next : Progress
-    next = nextSegment p j
+    next = next_segment p j
 
     abbrev k : ℕ
     k = get_or s.segment s.running 0 + 1
 
     small : j < 32
-    small = omega (arith, L.few-jobs)
+    small = omega (arith, L.few_jobs)
 
-    next-k : k ≡ p.segment j + 1
-    next-k = ap (λ (i : ℕ). get_or s.segment i 0 + 1) S.running ∙ omega (arith, S.segment j h)
+    next_k : k ≡ p.segment j + 1
+    next_k = ap (λ (i : ℕ). get_or s.segment i 0 + 1) S.running ∙ omega (arith, S.segment j h)
 
     -- elsewhere nothing changes
     other : (i : ℕ) → i ≢ j → (next.segment i ≡ p.segment i) × (next.had i ≡ p.had i)
     other i n = (put_other p.segment j (p.segment j + 1) i n, put_other p.had j 0 i n)
 
-    here-segment : next.segment j ≡ p.segment j + 1
-    here-segment = put_same p.segment j (p.segment j + 1)
+    here_segment : next.segment j ≡ p.segment j + 1
+    here_segment = put_same p.segment j (p.segment j + 1)
 
-    here-had : next.had j ≡ 0
-    here-had = put_same p.had j 0
+    here_had : next.had j ≡ 0
+    here_had = put_same p.had j 0
 
-    end-kind : kind_of (leaveKindAt J s.running k) ≡ leaveKind J p j
-    end-kind = rw (next-k, S.running) (split (p.segment j + 1) (J.segments j)
+    end_kind : kind_of (leave_kind_at J s.running k) ≡ leave_kind J p j
+    end_kind = rw (next_k, S.running) (split (p.segment j + 1) (J.segments j)
         (λ (q : p.segment j + 1 < J.segments j). rw (lt-ltb _ _ q, ne_eqb (p.segment j + 1) (J.segments j) (omega arith)))
         (λ (q : J.segments j ≤ p.segment j + 1). rw (le-ltb _ _ q, eq-eqb (p.segment j + 1) (J.segments j) (omega (arith, (S.on h).1)))))
 
-    end-key : keyOf (weightAt J s.running k true) s.running ≡ keyOf (weight J (controlOf next) j) j
-    end-key = rw (next-k, S.running) (ap (λ (v : ℕ). keyOf v j) (sym (weight-begun J next j (left-begun next j (omega (arith, here-segment)))
-        ∙ ap (λ (k : ℕ). weightAt J j k true) here-segment)))
+    end_key : key_of (weight_at J s.running k true) s.running ≡ key_of (weight J (control_of next) j) j
+    end_key = rw (next_k, S.running) (ap (λ (v : ℕ). key_of v j) (sym (weight_begun J next j (left_begun next j (omega (arith, here_segment)))
+        ∙ ap (λ (k : ℕ). weight_at J j k true) here_segment)))
 
-    end-time : timeAt w times s.running k ≡ time j (p.segment j + 1)
-    end-time = rw (next-k, S.running) (same j (p.segment j + 1) h)
+    end_time : time_at w times s.running k ≡ time j (p.segment j + 1)
+    end_time = rw (next_k, S.running) (same j (p.segment j + 1) h)
 
     -- what is said of each job but j by the old state, and of j by the new numbers
     at_j : (P : ℕ → Type 0) → P j → ((i : ℕ) → i ≢ j → P i) → (i : ℕ) → P i
@@ -154,30 +154,30 @@ module _ (w times : List ℕ) (L : Loaded w) (time : ℕ → ℕ → ℕ) (posit
     stored_here : (l : List ℕ) (v : ℕ) → length l ≡ 32 → get_or (set l s.running v) j 0 ≡ v
     stored_here l v e = rw S.running (get_or-set_same l j v 0 (omega (arith, small)))
 
-    pub shows-end : Shows J time (endStep w times tick s) (after_end J tick r)
-    unfolding endStep
-    shows-end = record {
+    pub shows_end : Shows J time (end_step w times tick s) (after_end J tick r)
+    unfolding end_step
+    shows_end = record {
       segments = simp length-set S.segments;
       rests = simp length-set S.rests;
       keys = simp length-set S.keys;
       segment = at_j (λ i. i < J.jobs → get_or (set s.segment s.running k) i 0 ≡ next.segment i)
-          (λ q. stored_here s.segment k S.segments ∙ next-k ∙ sym here-segment)
+          (λ q. stored_here s.segment k S.segments ∙ next_k ∙ sym here_segment)
           (λ i n q. stored s.segment k i n ∙ S.segment i q ∙ sym (other i n).0);
-      rest = λ i q n. at_j (λ i. i < J.jobs → next.segment i < J.segments i → get_or (set s.rest s.running (timeAt w times s.running k)) i 0 + next.had i ≡ time i (next.segment i))
-          (λ q l. omega (arith, stored_here s.rest (timeAt w times s.running k) S.rests, end-time, here-had, ap (time j) here-segment))
-          (λ i n q l. omega (arith, stored s.rest (timeAt w times s.running k) i n, (other i n).1, ap (time i) (other i n).0, S.rest i q n (omega (arith, (other i n).0)))) i q;
+      rest = λ i q n. at_j (λ i. i < J.jobs → next.segment i < J.segments i → get_or (set s.rest s.running (time_at w times s.running k)) i 0 + next.had i ≡ time i (next.segment i))
+          (λ q l. omega (arith, stored_here s.rest (time_at w times s.running k) S.rests, end_time, here_had, ap (time j) here_segment))
+          (λ i n q l. omega (arith, stored s.rest (time_at w times s.running k) i n, (other i n).1, ap (time i) (other i n).0, S.rest i q n (omega (arith, (other i n).0)))) i q;
       some = λ i q n. at_j (λ i. i < J.jobs → next.segment i < J.segments i → next.had i < time i (next.segment i))
-          (λ q l. omega (arith, here-had, positive j (next.segment j) q l))
+          (λ q l. omega (arith, here_had, positive j (next.segment j) q l))
           (λ i n q l. omega (arith, (other i n).1, ap (time i) (other i n).0, S.some i q n (omega (arith, (other i n).0)))) i q;
-      key = at_j (λ i. i < s.released → get_or (set s.key s.running (keyOf (weightAt J s.running k true) s.running)) i 0 ≡ keyOf (weight J (controlOf next) i) i)
-          (λ q. stored_here s.key (keyOf (weightAt J s.running k true) s.running) S.keys ∙ end-key)
-          (λ i n q. stored s.key (keyOf (weightAt J s.running k true) s.running) i n ∙ S.key i q ∙ ap (λ (v : ℕ). keyOf v i) (weight-same J p next i (sym (other i n).0) (sym (other i n).1)));
-      no_key = λ i q. stored s.key (keyOf (weightAt J s.running k true) s.running) i (omega (arith, (S.on h).0)) ∙ S.no_key i q;
+      key = at_j (λ i. i < s.released → get_or (set s.key s.running (key_of (weight_at J s.running k true) s.running)) i 0 ≡ key_of (weight J (control_of next) i) i)
+          (λ q. stored_here s.key (key_of (weight_at J s.running k true) s.running) S.keys ∙ end_key)
+          (λ i n q. stored s.key (key_of (weight_at J s.running k true) s.running) i n ∙ S.key i q ∙ ap (λ (v : ℕ). key_of v i) (weight_same J p next i (sym (other i n).0) (sym (other i n).1)));
+      no_key = λ i q. stored s.key (key_of (weight_at J s.running k true) s.running) i (omega (arith, (S.on h).0)) ∙ S.no_key i q;
       released = S.released;
       idle = λ i q l. let n : i ≢ j = omega (arith, (S.on h).0) in ((other i n).0 ∙ (S.idle i q l).0, (other i n).1 ∙ (S.idle i q l).1);
       running = refl;
       inside = omega arith;
-      due = ap (λ (x : _). leaving x tick) end-kind;
+      due = ap (λ (x : _). leaving x tick) end_kind;
       left = λ q. absurd (omega arith);
       on = λ q. absurd (omega arith);
       mid = λ q. absurd (omega arith);

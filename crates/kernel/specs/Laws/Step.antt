@@ -3,7 +3,7 @@ use Rattle.std.specs.Prelude.{ℕ, zero, suc, ◌+◌, ◌-◌, List, [], ◌∷
 use Rattle.kernel.specs.Rules.{JobSet, Kind, FIRST, END, STEP, CUT, Switch}
 use Rattle.kernel.specs.Laws.Tests.{iflt}
 use Rattle.kernel.specs.Laws.Places.{put2}
-use Rattle.kernel.specs.Laws.Control.{Control, leave, mark, weight, after, startAfter, above}
+use Rattle.kernel.specs.Laws.Control.{Control, leave, mark, weight, after, start_after, above}
 use Rattle.kernel.specs.Laws.Fall.{unbegun}
 
 -- right after a dispatch: the control, and the running job
@@ -31,16 +31,16 @@ abbrev pub present : State → ℕ
 present S = S.control.segment S.job
 
 module _ (J : JobSet) where
-  unfoldable pub leaveKindOf : State → Kind
-  leaveKindOf S = iflt (suc (present S)) (J.segments S.job) STEP END
+  unfoldable pub leave_kind_of : State → Kind
+  leave_kind_of S = iflt (suc (present S)) (J.segments S.job) STEP END
 
   -- the running job is cut at the first release above it after a, where that is before e; else e
-  abbrev pub cutTick : State → (a e : ℕ) → ℕ
-  cutTick S a e = above J S.control a (weight J S.control S.job) e
+  abbrev pub cut_tick : State → (a e : ℕ) → ℕ
+  cut_tick S a e = above J S.control a (weight J S.control S.job) e
 
   -- a leaving at t by a kind, with a control and with what is left then
   unfoldable pub out_at : Kind → Control → (ℕ → ℕ → ℕ) → ℕ → Out
-  out_at kind κ left t = record { kind = kind; tick = t; state = dispatch κ (after J κ t); point = record { start = startAfter J κ t; left = left } }
+  out_at kind κ left t = record { kind = kind; tick = t; state = dispatch κ (after J κ t); point = record { start = start_after J κ t; left = left } }
 
   -- the switch that a run makes next
   unfoldable pub step : State → Point → Out
@@ -48,12 +48,12 @@ module _ (J : JobSet) where
       let j = S.job in
       let k = present S in
       let e = p.start + p.left j k in
-      let t = cutTick S p.start e in
-      iflt t e (out_at CUT S.control (put2 p.left j k (e - t)) t) (out_at (leaveKindOf S) (leave S.control j) (put2 p.left j k 0) t)
+      let t = cut_tick S p.start e in
+      iflt t e (out_at CUT S.control (put2 p.left j k (e - t)) t) (out_at (leave_kind_of S) (leave S.control j) (put2 p.left j k 0) t)
 
   -- as the rules' switch
-  unfoldable pub switchOf : Out → Switch
-  switchOf o = record {
+  unfoldable pub switch_of : Out → Switch
+  switch_of o = record {
     kind = o.kind;
     tick = o.tick;
     job = o.state.job;
@@ -62,19 +62,19 @@ module _ (J : JobSet) where
   }
 
   -- the switches from a dispatch on, at most f of them
-  unfoldable pub switchesFrom : ℕ → State → Point → List Switch
-  switchesFrom zero S p = []
-  switchesFrom (suc f) S p =
+  unfoldable pub switches_from : ℕ → State → Point → List Switch
+  switches_from zero S p = []
+  switches_from (suc f) S p =
       let o = step S p in
-      let rest = switchesFrom f o.state o.point in
-      iflt S.job J.jobs (switchOf o ∷ rest) []
+      let rest = switches_from f o.state o.point in
+      iflt S.job J.jobs (switch_of o ∷ rest) []
 
   -- the first dispatch, where segment k of job i takes `time i k` ticks
-  abbrev pub firstTick : ℕ
-  firstTick = startAfter J unbegun 0
+  abbrev pub first_tick : ℕ
+  first_tick = start_after J unbegun 0
 
-  abbrev pub firstState : State
-  firstState = dispatch unbegun (after J unbegun 0)
+  abbrev pub first_state : State
+  first_state = dispatch unbegun (after J unbegun 0)
 
-  abbrev pub firstOut : (ℕ → ℕ → ℕ) → Out
-  firstOut time = record { kind = FIRST; tick = firstTick; state = firstState; point = record { start = firstTick; left = time } }
+  abbrev pub first_out : (ℕ → ℕ → ℕ) → Out
+  first_out time = record { kind = FIRST; tick = first_tick; state = first_state; point = record { start = first_tick; left = time } }

@@ -1,6 +1,6 @@
 use borrow.Author.Rules.{rules}
-use Rattle.lines.specs.Text.{headLine}
-use Rattle.lines.specs.Put.{line_word, line-last}
+use Rattle.lines.specs.Text.{head_line}
+use Rattle.lines.specs.Put.{line_word, line_last}
 use Rattle.lines.proofs.head.Statement.{statement}
 use Rattle.lines.proofs.head.Tie as tie
 
@@ -26,12 +26,12 @@ same_length : tie.Need-same-length
 same_length c = search rules
 
 returns : tie.Need-returns
-unfolding headLine
+unfolding head_line
 returns c =
     let third = c.before.before.before.before.before.before in
     let second = third.before.before.before.before.before in
     let first = second.before.before.before.before in
-    line_word _ _ first.word.ensures (line_word _ _ second.number.ensures (line_word _ _ third.word2.ensures (line-last c.before.before.number2.ensures)))
+    line_word _ _ first.word.ensures (line_word _ _ second.number.ensures (line_word _ _ third.word2.ensures (line_last c.before.before.number2.ensures)))
 
 pub head_spec : {M : Type 1} → statement M
 head_spec =

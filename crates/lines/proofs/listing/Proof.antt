@@ -2,15 +2,15 @@ use Prim.Native.Nat.{◌-◌, ◌≤◌}
 use native.Mathlib.Omega.{arith}
 use mathlib.Core.Path.{◌∙◌}
 use borrow.Author.Rules.{rules}
-use Rattle.lines.specs.Text.{nodeLines}
+use Rattle.lines.specs.Text.{node_lines}
 use Rattle.lines.specs.Lengths.{Bits32}
-use Rattle.lines.specs.Put.{Put, put-length}
-use Rattle.lines.proofs.Listed.{no_lines, line-more, place-small, listed-refusal, listed-nodes}
+use Rattle.lines.specs.Put.{Put, put_length}
+use Rattle.lines.proofs.Listed.{no_lines, line_more, place_small, listed_refusal, listed_nodes}
 use Rattle.lines.proofs.listing.Statement.{statement}
 use Rattle.lines.proofs.listing.Tie as tie
 
 abbrev invariant-loop : tie.invariant-loop
-invariant-loop refusal nodes orders words out₀ at₀ i₀ out at i = (i ≤ nodes) × Put out₀ at₀ (nodeLines i words) out at
+invariant-loop refusal nodes orders words out₀ at₀ i₀ out at i = (i ≤ nodes) × Put out₀ at₀ (node_lines i words) out at
 
 abbrev decreases-loop : tie.decreases-loop
 decreases-loop refusal nodes orders words out₀ at₀ i₀ out at i = nodes - i
@@ -18,9 +18,9 @@ decreases-loop refusal nodes orders words out₀ at₀ i₀ out at i = nodes - i
 -- what the types of the arguments tell
 known : (c : tie.After-shared-slice-known invariant-loop decreases-loop) → Bits32 c.before.args.refusal c.before.args.nodes c.before.args.orders c.before.args.words.now
 known c = record {
-  in-refusal = c.before.ranges.refusal.fits;
-  in-nodes = c.before.ranges.nodes.fits;
-  in-orders = c.before.ranges.orders.fits;
+  in_refusal = c.before.ranges.refusal.fits;
+  in_nodes = c.before.ranges.nodes.fits;
+  in_orders = c.before.ranges.orders.fits;
   in_words = λ i. (c.shared-slice-known.given i).fits;
 }
 
@@ -33,7 +33,7 @@ same_length c = search rules
 returns : tie.Need-returns invariant-loop decreases-loop
 returns c =
     let told = c.before.before.before.before in
-    listed-refusal (known told.before.before) told.if1.true c.before.before.refused.ensures
+    listed_refusal (known told.before.before) told.if1.true c.before.before.refused.ensures
 
 head-requires : tie.Need-head-requires invariant-loop decreases-loop
 head-requires c κs = search rules
@@ -45,7 +45,7 @@ node-requires : tie.Need-node-requires invariant-loop decreases-loop
 node-requires c κs =
     let turn = c.before.before in
     let headed = turn.before.before.before in
-    place-small (known headed.before.before.before.before) _ turn.loop.invariant.0 headed.head.ensures turn.loop.invariant.1
+    place_small (known headed.before.before.before.before) _ turn.loop.invariant.0 headed.head.ensures turn.loop.invariant.1
 
 add-i : tie.Need-overflow-add-i invariant-loop decreases-loop
 add-i c = search rules
@@ -56,16 +56,16 @@ loop-less c = search rules
 loop-again : tie.Need-loop-preserved invariant-loop decreases-loop
 loop-again c =
     let turn = c.before.before.before.before in
-    (omega (arith, turn.loop-test.true), line-more _ _ turn.before.loop.invariant.1 c.before.before.node.ensures)
+    (omega (arith, turn.loop-test.true), line_more _ _ turn.before.loop.invariant.1 c.before.before.node.ensures)
 
 same-length-2 : tie.Need-same-length-2 invariant-loop decreases-loop
-same-length-2 c = put-length c.before.loop.invariant.1 ∙ put-length c.before.before.before.before.head.ensures
+same-length-2 c = put_length c.before.loop.invariant.1 ∙ put_length c.before.before.before.before.head.ensures
 
 returns-2 : tie.Need-returns-2 invariant-loop decreases-loop
 returns-2 c =
     let headed = c.before.before.before.before in
     let told = headed.before.before in
-    listed-nodes (known told.before.before) _ told.if1.false c.before.loop.invariant.0 c.loop-test.false headed.head.ensures c.before.loop.invariant.1
+    listed_nodes (known told.before.before) _ told.if1.false c.before.loop.invariant.0 c.loop-test.false headed.head.ensures c.before.loop.invariant.1
 
 pub listing-spec : {M : Type 1} → statement M
 listing-spec =

@@ -1,5 +1,5 @@
 use borrow.Author.Rules.{rules}
-use Rattle.lines.specs.Text.{nodeLine}
+use Rattle.lines.specs.Text.{node_line}
 use Rattle.lines.specs.Put.{line_word}
 use Rattle.lines.proofs.node.Statement.{statement}
 use Rattle.lines.proofs.node.Tie as tie
@@ -38,7 +38,7 @@ same_length : tie.Need-same-length
 same_length c = search rules
 
 returns : tie.Need-returns
-unfolding nodeLine
+unfolding node_line
 returns c =
     let segment = c.before.before.before.before.before.before in
     let job = segment.before.before.before.before in

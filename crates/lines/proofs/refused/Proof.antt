@@ -1,6 +1,6 @@
 use borrow.Author.Rules.{rules}
-use Rattle.lines.specs.Text.{refusedLine}
-use Rattle.lines.specs.Put.{line_word, line-last}
+use Rattle.lines.specs.Text.{refused_line}
+use Rattle.lines.specs.Put.{line_word, line_last}
 use Rattle.lines.proofs.refused.Statement.{statement}
 use Rattle.lines.proofs.refused.Tie as tie
 
@@ -17,9 +17,9 @@ same_length : tie.Need-same-length
 same_length c = search rules
 
 returns : tie.Need-returns
-unfolding refusedLine
+unfolding refused_line
 returns c =
-    line_word _ _ c.before.before.before.before.before.before.word.ensures (line-last c.before.before.number.ensures)
+    line_word _ _ c.before.before.before.before.before.before.word.ensures (line_last c.before.before.number.ensures)
 
 pub refused-spec : {M : Type 1} → statement M
 refused-spec =

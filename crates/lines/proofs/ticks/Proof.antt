@@ -1,5 +1,5 @@
 use borrow.Author.Rules.{rules}
-use Rattle.lines.specs.Put.{line_word, line-last}
+use Rattle.lines.specs.Put.{line_word, line_last}
 use Rattle.lines.proofs.ticks.Statement.{statement}
 use Rattle.lines.proofs.ticks.Tie as tie
 
@@ -38,7 +38,7 @@ returns c =
     let third = c.before.before.before.before.before.before in
     let second = third.before.before.before.before in
     let first = second.before.before.before.before in
-    line_word _ _ first.field.ensures (line_word _ _ second.field2.ensures (line_word _ _ third.field3.ensures (line-last c.before.before.field4.ensures)))
+    line_word _ _ first.field.ensures (line_word _ _ second.field2.ensures (line_word _ _ third.field3.ensures (line_last c.before.before.field4.ensures)))
 
 pub ticks-spec : {M : Type 1} → statement M
 ticks-spec =

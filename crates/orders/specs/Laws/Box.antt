@@ -4,7 +4,7 @@ use Rattle.kernel.specs.Rules.{JobSet, Kind, CUT}
 use Rattle.kernel.specs.Laws.Tests.{iflt}
 use Rattle.kernel.specs.Laws.Places.{put2}
 use Rattle.kernel.specs.Laws.Control.{Control, leave, weight, after, above}
-use Rattle.kernel.specs.Laws.Step.{State, dispatch, Point, Out, present, leaveKindOf, cutTick}
+use Rattle.kernel.specs.Laws.Step.{State, dispatch, Point, Out, present, leave_kind_of, cut_tick}
 
 -- from when to when the running job starts, and from what to what is left of each segment
 pub record Box : Type 0 where
@@ -66,28 +66,28 @@ module _ (J : JobSet) where
 
   -- the latest tick at which it can be left: that of its cut, or its latest end
   abbrev pub latest : State → Box → ℕ
-  latest S B = cutTick J S B.from (late S B)
+  latest S B = cut_tick J S B.from (late S B)
 
-  unfoldable pub leaveChild : State → Box → Span → Child
-  leaveChild S B = child (leaveKindOf J S) (leave S.control S.job) (put2 B.least S.job (present S) 0) (put2 B.most S.job (present S) 0)
+  unfoldable pub leave_child : State → Box → Span → Child
+  leave_child S B = child (leave_kind_of J S) (leave S.control S.job) (put2 B.least S.job (present S) 0) (put2 B.most S.job (present S) 0)
 
-  unfoldable pub leaveSpans : State → Box → List Span
-  leaveSpans S B = spans (leave S.control S.job) (latest S B) (suc (latest S B) - early S B) (early S B)
+  unfoldable pub leave_spans : State → Box → List Span
+  leave_spans S B = spans (leave S.control S.job) (latest S B) (suc (latest S B) - early S B) (early S B)
 
   -- the children by END or STEP
   unfoldable pub leaves : State → Box → List Child
-  leaves S B = map (leaveChild S B) (leaveSpans S B)
+  leaves S B = map (leave_child S B) (leave_spans S B)
 
-  abbrev pub cutSpan : State → ℕ → Span
-  cutSpan S t = record { first = t; last = t; job = after J S.control t }
+  abbrev pub cut_span : State → ℕ → Span
+  cut_span S t = record { first = t; last = t; job = after J S.control t }
 
   -- the child by a cut at t: at least 1 tick is left
-  unfoldable pub cutChild : State → Box → ℕ → Child
-  cutChild S B t =
-      child CUT S.control (put2 B.least S.job (present S) (max 1 (early S B - t))) (put2 B.most S.job (present S) (late S B - t)) (cutSpan S t)
+  unfoldable pub cut_child : State → Box → ℕ → Child
+  cut_child S B t =
+      child CUT S.control (put2 B.least S.job (present S) (max 1 (early S B - t))) (put2 B.most S.job (present S) (late S B - t)) (cut_span S t)
 
   unfoldable pub cuts : State → Box → List Child
-  cuts S B = iflt (latest S B) (late S B) (cutChild S B (latest S B) ∷ []) []
+  cuts S B = iflt (latest S B) (late S B) (cut_child S B (latest S B) ∷ []) []
 
   unfoldable pub children : State → Box → List Child
   children S B = leaves S B ++ cuts S B

@@ -9,9 +9,9 @@ use Rattle.std.proofs.Math.Bool.{true, false, cond}
 use Rattle.std.proofs.Math.Dec.{eqb}
 use Rattle.kernel.specs.Rules.{JobSet, Kind}
 use Rattle.kernel.specs.Laws.Tests.{split, if-lt, if-ge}
-use Rattle.kernel.specs.Laws.Places.{put_same, put_other, put2, put2-cases}
-use Rattle.kernel.specs.Laws.Pick.{Disp, disp-unique}
-use Rattle.kernel.specs.Laws.Control.{Lawful, Control, mark, weight, after, startAfter, released}
+use Rattle.kernel.specs.Laws.Places.{put_same, put_other, put2, put2_cases}
+use Rattle.kernel.specs.Laws.Pick.{Disp, disp_unique}
+use Rattle.kernel.specs.Laws.Control.{Lawful, Control, mark, weight, after, start_after, released}
 use Rattle.kernel.specs.Laws.Step.{State, dispatch, Point, Out, out_at, step}
 use Rattle.orders.specs.Laws.Box.{Box, Under, In, Child, Span, child, Sound, Has}
 use Rattle.orders.specs.Laws.Spans.{Holds, SpanOk}
@@ -20,46 +20,46 @@ use Rattle.orders.specs.Laws.Spans.{Holds, SpanOk}
 
 -- nothing else changes
 elsewhere : (f : ℕ → ℕ → ℕ) (j k x i m : ℕ) → (i ≡ j → m ≡ k → ⊥) → put2 f j k x i m ≡ f i m
-elsewhere f j k x i m d = put2-cases (λ v. v ≡ f i m) f j k x i m (λ p q. absurd (d p q)) (λ _. refl)
+elsewhere f j k x i m d = put2_cases (λ v. v ≡ f i m) f j k x i m (λ p q. absurd (d p q)) (λ _. refl)
 
 module _ (J : JobSet) (f g : ℕ → ℕ → ℕ) (j k x y : ℕ) where
   -- both are changed
-  pub under-both : x ≤ y → Under J f g → Under J (put2 f j k x) (put2 g j k y)
+  pub under_both : x ≤ y → Under J f g → Under J (put2 f j k x) (put2 g j k y)
   unfolding put2
-  under-both h u i m hi hm = go (eqb i j && eqb m k)
+  under_both h u i m hi hm = go (eqb i j && eqb m k)
     where
       go : (b : Bool) → cond b x (f i m) ≤ cond b y (g i m)
       go true = h
       go false = u i m hi hm
 
   -- the change goes over from the lower to the upper
-  pub under-above : f j k ≤ y → Under J (put2 f j k x) g → Under J f (put2 g j k y)
-  under-above h u i m hi hm = put2-cases (λ v. f i m ≤ v) g j k y i m (λ p q. rw (p, q) h) (λ d. rw (elsewhere f j k x i m d) at (u i m hi hm))
+  pub under_above : f j k ≤ y → Under J (put2 f j k x) g → Under J f (put2 g j k y)
+  under_above h u i m hi hm = put2_cases (λ v. f i m ≤ v) g j k y i m (λ p q. rw (p, q) h) (λ d. rw (elsewhere f j k x i m d) at (u i m hi hm))
 
   -- and from the upper to the lower
-  pub under-below : x ≤ g j k → Under J f (put2 g j k y) → Under J (put2 f j k x) g
-  under-below h u i m hi hm = put2-cases (λ v. v ≤ g i m) f j k x i m (λ p q. rw (p, q) h) (λ d. rw (elsewhere g j k y i m d) at (u i m hi hm))
+  pub under_below : x ≤ g j k → Under J f (put2 g j k y) → Under J (put2 f j k x) g
+  under_below h u i m hi hm = put2_cases (λ v. v ≤ g i m) f j k x i m (λ p q. rw (p, q) h) (λ d. rw (elsewhere g j k y i m d) at (u i m hi hm))
 
 -- ---- a job that is dispatched gains
 
-cond-le : (b : Bool) (x y : ℕ) → y ≤ x → cond b x y ≤ x
-cond-le true x y h = omega arith
-cond-le false x y h = h
+cond_le : (b : Bool) (x y : ℕ) → y ≤ x → cond b x y ≤ x
+cond_le true x y h = omega arith
+cond_le false x y h = h
 
 module _ (J : JobSet) (κ : Control) (d : ℕ) where
-  mark-same : Lawful J → d < J.jobs → weight J κ d ≤ weight J (mark κ d) d
+  mark_same : Lawful J → d < J.jobs → weight J κ d ≤ weight J (mark κ d) d
   unfolding weight mark
-  mark-same L h = rw (put_same κ.begun d true) (split (κ.segment d) (J.segments d)
-      (λ q. simp if-lt (cond-le (κ.begun d) _ _ (omega (arith, L.raised d (κ.segment d) h q))))
+  mark_same L h = rw (put_same κ.begun d true) (split (κ.segment d) (J.segments d)
+      (λ q. simp if-lt (cond_le (κ.begun d) _ _ (omega (arith, L.raised d (κ.segment d) h q))))
       (λ q. simp if-ge (omega arith)))
 
-  mark-other : (i : ℕ) → i ≢ d → weight J (mark κ d) i ≡ weight J κ i
+  mark_other : (i : ℕ) → i ≢ d → weight J (mark κ d) i ≡ weight J κ i
   unfolding weight mark
-  mark-other i h = rw (put_other κ.begun d true i h)
+  mark_other i h = rw (put_other κ.begun d true i h)
 
-  mark-begun : (i : ℕ) → i ≢ d → (mark κ d).begun i ≡ κ.begun i
+  mark_begun : (i : ℕ) → i ≢ d → (mark κ d).begun i ≡ κ.begun i
   unfolding mark
-  mark-begun i h = put_other κ.begun d true i h
+  mark_begun i h = put_other κ.begun d true i h
 
 -- ---- what a child owes
 
@@ -96,12 +96,12 @@ module _ (J : JobSet) where
 -- the child of a span
 module _ (J : JobSet) (L : Lawful J) (kind : Kind) (κ : Control) (least most : ℕ → ℕ → ℕ) (s : Span) (t0 top : ℕ) (o : SpanOk J κ t0 top s) where
   module _ (was : (i : ℕ) → κ.begun i ≡ true → J.release i ≤ s.first) (order : Under J least most) where
-    child-sound : s.job < J.jobs → Sound J (child J kind κ least most s).state (child J kind κ least most s).box
+    child_sound : s.job < J.jobs → Sound J (child J kind κ least most s).state (child J kind κ least most s).box
     unfolding child dispatch
-    child-sound h =
+    child_sound h =
         let d : ℕ = s.job in
         let D : Disp J.jobs J.release (weight J κ) s.last d = o.same s.last o.order (omega arith) in
-        let gain : weight J κ d ≤ weight J (mark κ d) d = mark-same J κ d L h in
+        let gain : weight J κ d ≤ weight J (mark κ d) d = mark_same J κ d L h in
         record {
           inside = h;
           alive = omega (arith, D.real h);
@@ -109,14 +109,14 @@ module _ (J : JobSet) (L : Lawful J) (kind : Kind) (κ : Control) (least most : 
           ends = omega (arith, o.order);
           top = λ i hi r. elim (ℕ_discrete i d) [
             | yes q ↦ rw q (omega arith)
-            | no q ↦ rw (mark-other J κ d i q) (omega (arith, D.top i hi r))
+            | no q ↦ rw (mark_other J κ d i q) (omega (arith, D.top i hi r))
           ];
           tie = λ i hi z. let q : i ≢ d = omega arith in
-              let e : weight J (mark κ d) i ≡ weight J κ i = mark-other J κ d i q in
+              let e : weight J (mark κ d) i ≡ weight J κ i = mark_other J κ d i q in
               omega (arith, D.tie i hi (omega (arith, L.sorted i d (omega arith) h)) (omega arith));
           was = λ i b. elim (ℕ_discrete i d) [
             | yes q ↦ rw q (omega arith)
-            | no q ↦ omega (arith, was i (sym (mark-begun J κ d i q) ∙ b))
+            | no q ↦ omega (arith, was i (sym (mark_begun J κ d i q) ∙ b))
           ];
           order = order;
         }
@@ -127,17 +127,17 @@ module _ (J : JobSet) (L : Lawful J) (kind : Kind) (κ : Control) (least most : 
       from = unfold child dispatch in refl;
       to = unfold child dispatch in refl;
       order = unfold child in order;
-      kept = unfold child dispatch in child-sound;
+      kept = unfold child dispatch in child_sound;
     }
 
-  job-at : (t : ℕ) → Holds t s → after J κ t ≡ s.job
-  job-at t w = disp-unique _ _ _ (released J L κ) t s.job (o.same t w.0 w.1)
+  job_at_lem : (t : ℕ) → Holds t s → after J κ t ≡ s.job
+  job_at_lem t w = disp_unique _ _ _ (released J L κ) t s.job (o.same t w.0 w.1)
 
-  pub child-has : (left : ℕ → ℕ → ℕ) (t : ℕ) → Holds t s → Under J least left → Under J left most
+  pub child_has : (left : ℕ → ℕ → ℕ) (t : ℕ) → Holds t s → Under J least left → Under J left most
       → Has J (out_at J kind κ left t) (child J kind κ least most s)
   unfolding out_at child
-  child-has left t w h1 h2 =
-      let e = job-at t w in
+  child_has left t w h1 h2 =
+      let e = job_at_lem t w in
       let r = ap J.release e in
       record {
         kind = refl;
@@ -147,10 +147,10 @@ module _ (J : JobSet) (L : Lawful J) (kind : Kind) (κ : Control) (least most : 
         point = record { from = omega (arith, w.0); to = omega (arith, w.1); low = h1; high = h2 };
       }
 
-  pub child-out : (t : ℕ) (q : Point) → Place J (child J kind κ least most s) t q
+  pub child_out : (t : ℕ) (q : Point) → Place J (child J kind κ least most s) t q
       → out_at J kind κ q.left t ≡ out_of J (child J kind κ least most s) t q
   unfolding out_at child dispatch
-  child-out t q a =
-      let e = job-at t (a.from, a.to) in
-      let h : startAfter J κ t ≡ q.start = omega (arith, ap J.release e, a.start) in
+  child_out t q a =
+      let e = job_at_lem t (a.from, a.to) in
+      let h : start_after J κ t ≡ q.start = omega (arith, ap J.release e, a.start) in
       λ i. record { kind = kind; tick = t; state = dispatch κ (e i); point = record { start = h i; left = q.left } }

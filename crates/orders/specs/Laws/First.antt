@@ -7,19 +7,19 @@ use Rattle.kernel.specs.Laws.Tests.{if-lt}
 use Rattle.kernel.specs.Laws.Pick.{disp}
 use Rattle.kernel.specs.Laws.Control.{Lawful, weight, after, released}
 use Rattle.kernel.specs.Jobs.{sum}
-use Rattle.kernel.specs.Laws.Fall.{potential, potential-start, fall-cut, unbegun}
-use Rattle.kernel.specs.Laws.Step.{dispatch, firstState}
+use Rattle.kernel.specs.Laws.Fall.{potential, potential_start, fall_cut, unbegun}
+use Rattle.kernel.specs.Laws.Step.{dispatch, first_state}
 use Rattle.orders.specs.Laws.Box.{Span, child}
 use Rattle.orders.specs.Laws.Spans.{SpanOk}
 use Rattle.orders.specs.Laws.Child.{Fits, child_fits}
-use Rattle.orders.specs.Laws.Walk.{firstChild, enough}
+use Rattle.orders.specs.Laws.Walk.{first_child, enough}
 
 module _ (J : JobSet) (L : Lawful J) where
-  abbrev firstSpan : Span
-  firstSpan = record { first = 0; last = 0; job = after J unbegun 0 }
+  abbrev first_span : Span
+  first_span = record { first = 0; last = 0; job = after J unbegun 0 }
 
-  first-ok : SpanOk J unbegun 0 0 firstSpan
-  first-ok = record {
+  first_ok : SpanOk J unbegun 0 0 first_span
+  first_ok = record {
     low = omega arith;
     order = omega arith;
     high = omega arith;
@@ -27,21 +27,21 @@ module _ (J : JobSet) (L : Lawful J) where
     rise = omega arith;
   }
 
-  pub first_fits : Fits J (firstChild J)
+  pub first_fits : Fits J (first_child J)
   unfolding child dispatch
   first_fits =
-      let F = child_fits J L FIRST unbegun J.shortest J.longest firstSpan 0 0 first-ok
+      let F = child_fits J L FIRST unbegun J.shortest J.longest first_span 0 0 first_ok
       (λ i b. absurd (false≢true (unfold unbegun in b))) L.ordered in
       record { span = omega arith; from = omega arith; to = omega arith; order = L.ordered; kept = F.kept }
 
   -- it has begun a job, so that fewer switches than segments plus jobs are to come
-  pub first-less : potential J (firstState J).control < sum J.segments J.jobs + J.jobs
+  pub first_less : potential J (first_state J).control < sum J.segments J.jobs + J.jobs
   unfolding dispatch
-  first-less =
+  first_less =
       let some : 0 < weight J unbegun L.worker
-      = unfold weight unbegun in rw (if-lt 0 (J.segments L.worker) (2 * J.base L.worker + 1) 0 L.worker-some) (omega arith) in
-      let live : after J unbegun 0 < J.jobs = (disp _ _ _ (released J L unbegun) 0).some L.worker L.worker-inside some in
-      omega (arith, fall-cut J unbegun (after J unbegun 0) live (unfold unbegun in refl), potential-start J)
+      = unfold weight unbegun in rw (if-lt 0 (J.segments L.worker) (2 * J.base L.worker + 1) 0 L.worker_some) (omega arith) in
+      let live : after J unbegun 0 < J.jobs = (disp _ _ _ (released J L unbegun) 0).some L.worker L.worker_inside some in
+      omega (arith, fall_cut J unbegun (after J unbegun 0) live (unfold unbegun in refl), potential_start J)
 
-  pub first-enough : potential J (firstState J).control ≤ enough J
-  first-enough = omega (arith, first-less)
+  pub first_enough : potential J (first_state J).control ≤ enough J
+  first_enough = omega (arith, first_less)

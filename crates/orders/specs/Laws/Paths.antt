@@ -10,9 +10,9 @@ use Rattle.kernel.specs.Rules.{JobSet, Within, run_of}
 use Rattle.kernel.specs.Laws.Control.{Lawful}
 use Rattle.orders.specs.Orders.{Label, label_of, order_of, Info, Forest, none, node, size, Sibling, Right, TreeOf}
 use Rattle.orders.specs.Nodes.{orders}
-use Rattle.orders.specs.Laws.Lists.{All, Any, Apart, all_map, any-imp, all_append, any_left, any-right, apart-map, all_of, apart-append, all_of_map, any-of-map, apart-of-map, one_of, unmap-append, unmap-cons}
-use Rattle.orders.specs.Laws.Unique.{Next, Part, part, head-follows, part-below, part-beside, alone}
-use Rattle.orders.specs.Laws.Ending.{EveryRunEnds, Ended, no-further, run-ended}
+use Rattle.orders.specs.Laws.Lists.{All, Any, Apart, all_map, any_imp, all_append, any_left, any_right, apart_map, all_of, apart_append, all_of_map, any_of_map, apart_of_map, one_of, unmap_append, unmap_cons}
+use Rattle.orders.specs.Laws.Unique.{Next, Part, part, head_follows, part_below, part_beside, alone}
+use Rattle.orders.specs.Laws.Ending.{EveryRunEnds, Ended, no_further, run_ended}
 
 -- ---- ways down
 
@@ -20,9 +20,9 @@ abbrev here : Bool → Label → List (List Label)
 here b l = cond b ((l ∷ []) ∷ []) []
 
 -- the labels of each way down to a node, where `stop` holds of what stands below that node
-unfoldable pub downTo : (Forest → Bool) → Forest → List (List Label)
-downTo stop none = []
-downTo stop (node x below beside) = here (stop below) x.label ++ (map (λ ys. x.label ∷ ys) (downTo stop below) ++ downTo stop beside)
+unfoldable pub down_to : (Forest → Bool) → Forest → List (List Label)
+down_to stop none = []
+down_to stop (node x below beside) = here (stop below) x.label ++ (map (λ ys. x.label ∷ ys) (down_to stop below) ++ down_to stop beside)
 
 -- nothing stands here
 abbrev pub bare : Forest → Bool
@@ -31,11 +31,11 @@ bare (node x below beside) = false
 
 -- from the root down to each node
 abbrev pub ways : Forest → List (List Label)
-ways = downTo (λ F. true)
+ways = down_to (λ F. true)
 
 -- from the root down to each leaf
 abbrev pub paths : Forest → List (List Label)
-paths = downTo bare
+paths = down_to bare
 
 abbrev pub Listed : List Label → List (List Label) → Type 0
 Listed xs = Any (λ ys. ys ≡ xs)
@@ -55,12 +55,12 @@ module _ (J : JobSet) where
   abbrev pub Begins : List Label → Type 0
   Begins xs = (ys : List Label) × Order (xs ++ ys)
 
-  order-begins : (xs : List Label) → Order xs → Begins xs
-  order-begins xs o = ([], rw (append-nil xs) o)
+  order_begins : (xs : List Label) → Order xs → Begins xs
+  order_begins xs o = ([], rw (append-nil xs) o)
 
 module _ (J : JobSet) (c : List Label) where
-  next-begins : (l : Label) → Next J c l → Begins J (c ++ l ∷ [])
-  next-begins l n =
+  next_begins : (l : Label) → Next J c l → Begins J (c ++ l ∷ [])
+  next_begins l n =
       let m = n.makes in (
         map label_of m.after,
         (
@@ -72,10 +72,10 @@ module _ (J : JobSet) (c : List Label) where
         ),
       )
 
-  begins-next : (l : Label) (ls : List Label) → Begins J (c ++ l ∷ ls) → Next J c l
-  begins-next l ls (ys, (time, within, e)) =
-      let (b, a, p, q, r) = unmap-append label_of (run_of J time) c (l ∷ ls ++ ys) (e ∙ append_assoc c (l ∷ ls) ys) in
-      let (s, a', p', q', r') = unmap-cons label_of a l (ls ++ ys) r in
+  begins_next : (l : Label) (ls : List Label) → Begins J (c ++ l ∷ ls) → Next J c l
+  begins_next l ls (ys, (time, within, e)) =
+      let (b, a, p, q, r) = unmap_append label_of (run_of J time) c (l ∷ ls ++ ys) (e ∙ append_assoc c (l ∷ ls) ys) in
+      let (s, a', p', q', r') = unmap_cons label_of a l (ls ++ ys) r in
       record { switch = s; makes = record { time = time; within = within; before = b; after = a'; run = rw p' at p; begins = q }; label = q'; has = tt }
 
 -- ---- what is listed
@@ -101,45 +101,45 @@ module _ (J : JobSet) (stop : Forest → Bool) (P : List Label → Type 0) (K : 
   abbrev Told : List Label → List Label → Type 0
   Told c xs = P (c ++ xs) × (xs ≡ [] → ⊥)
 
-  all_fit : (F : Forest) (c : List Label) → Part J c F → All (Told c) (downTo stop F)
-  unfolding downTo
+  all_fit : (F : Forest) (c : List Label) → Part J c F → All (Told c) (down_to stop F)
+  unfolding down_to
   all_fit none c p = tt
   all_fit (node x below beside) c p =
       let l = x.label in
-      let R = part-below J c x below beside p in
+      let R = part_below J c x below beside p in
       all_append (Told c) (here (stop below) l) _
-      (all_here (Told c) (stop below) l (λ t. ((K.stops c l below (head-follows J c x below beside p) R).0 t, nonempty l [])))
-      (all_append (Told c) (map (λ ys. l ∷ ys) (downTo stop below)) (downTo stop beside)
-      (all_of_map (λ ys. l ∷ ys) (Told c) (downTo stop below)
-      (all_map (Told (c ++ l ∷ [])) _ (λ ys h. (rw append_assoc at h.0, nonempty l ys)) (downTo stop below) (all_fit below (c ++ l ∷ []) (part J _ below R))))
-      (all_fit beside c (part-beside J c x below beside p)))
+      (all_here (Told c) (stop below) l (λ t. ((K.stops c l below (head_follows J c x below beside p) R).0 t, nonempty l [])))
+      (all_append (Told c) (map (λ ys. l ∷ ys) (down_to stop below)) (down_to stop beside)
+      (all_of_map (λ ys. l ∷ ys) (Told c) (down_to stop below)
+      (all_map (Told (c ++ l ∷ [])) _ (λ ys h. (rw append_assoc at h.0, nonempty l ys)) (down_to stop below) (all_fit below (c ++ l ∷ []) (part J _ below R))))
+      (all_fit beside c (part_beside J c x below beside p)))
 
-  found : (F : Forest) (c : List Label) (l : Label) (ls : List Label) → Part J c F → Sibling l F → P (c ++ l ∷ ls) → Listed (l ∷ ls) (downTo stop F)
-  unfolding downTo
+  found : (F : Forest) (c : List Label) (l : Label) (ls : List Label) → Part J c F → Sibling l F → P (c ++ l ∷ ls) → Listed (l ∷ ls) (down_to stop F)
+  unfolding down_to
   found (node x below beside) c l ls p (inr h) g =
-      any-right _ (here (stop below) x.label) _ (any-right _ (map (λ ys. x.label ∷ ys) (downTo stop below)) (downTo stop beside)
-      (found beside c l ls (part-beside J c x below beside p) h g))
+      any_right _ (here (stop below) x.label) _ (any_right _ (map (λ ys. x.label ∷ ys) (down_to stop below)) (down_to stop beside)
+      (found beside c l ls (part_beside J c x below beside p) h g))
   found (node x below beside) c l [] p (inl e) g =
-      any_left _ (here (stop below) x.label) _ (any-imp _ _ (λ ys q. q ∙ ap (λ m. m ∷ []) e) (here (stop below) x.label)
+      any_left _ (here (stop below) x.label) _ (any_imp _ _ (λ ys q. q ∙ ap (λ m. m ∷ []) e) (here (stop below) x.label)
       (any_here (stop below) x.label
-      ((K.stops c x.label below (head-follows J c x below beside p) (part-below J c x below beside p)).1 (rw e g))))
+      ((K.stops c x.label below (head_follows J c x below beside p) (part_below J c x below beside p)).1 (rw e g))))
   found (node x below beside) c l (m ∷ ms) p (inl e) g =
       let d = c ++ x.label ∷ [] in
-      let R = part-below J c x below beside p in
+      let R = part_below J c x below beside p in
       let g' : P (d ++ m ∷ ms) = rw (append_assoc c (x.label ∷ []) (m ∷ ms), e) g in
-      any-right _ (here (stop below) x.label) _ (any_left _ (map (λ ys. x.label ∷ ys) (downTo stop below)) (downTo stop beside)
-      (any-of-map (λ ys. x.label ∷ ys) _ (downTo stop below) (any-imp _ _ (λ ys q. ap₂ (λ (k : Label) (r : List Label). k ∷ r) e q) (downTo stop below)
-      (found below d m ms (part J d below R) ((R.complete m).1 (begins-next J d m ms (K.begins _ g'))) g'))))
+      any_right _ (here (stop below) x.label) _ (any_left _ (map (λ ys. x.label ∷ ys) (down_to stop below)) (down_to stop beside)
+      (any_of_map (λ ys. x.label ∷ ys) _ (down_to stop below) (any_imp _ _ (λ ys q. ap₂ (λ (k : Label) (r : List Label). k ∷ r) e q) (down_to stop below)
+      (found below d m ms (part J d below R) ((R.complete m).1 (begins_next J d m ms (K.begins _ g'))) g'))))
 
-  listed : (F : Forest) → TreeOf J F → (xs : List Label) → Listed xs (downTo stop F) ↔ (P xs × (xs ≡ [] → ⊥))
+  listed : (F : Forest) → TreeOf J F → (xs : List Label) → Listed xs (down_to stop F) ↔ (P xs × (xs ≡ [] → ⊥))
   listed F R xs = (
-    λ h. one_of (Told []) (λ ys. ys ≡ xs) (Told [] xs) (λ ys f e. subst (Told []) e f) (downTo stop F) (all_fit F [] (part J [] F R)) h,
+    λ h. one_of (Told []) (λ ys. ys ≡ xs) (Told [] xs) (λ ys f e. subst (Told []) e f) (down_to stop F) (all_fit F [] (part J [] F R)) h,
     back xs,
   )
     where
-      back : (xs : List Label) → P xs × (xs ≡ [] → ⊥) → Listed xs (downTo stop F)
+      back : (xs : List Label) → P xs × (xs ≡ [] → ⊥) → Listed xs (down_to stop F)
       back [] (h, n) = absurd (n refl)
-      back (l ∷ ls) (h, n) = found F [] l ls (part J [] F R) ((R.complete l).1 (begins-next J [] l ls (K.begins _ h))) h
+      back (l ∷ ls) (h, n) = found F [] l ls (part J [] F R) ((R.complete l).1 (begins_next J [] l ls (K.begins _ h))) h
 
 -- ---- once
 
@@ -153,33 +153,33 @@ wider x below beside [] h = h
 wider x below beside (l ∷ ls) h = inr h
 
 module _ (stop : Forest → Bool) where
-  all-heads : (F : Forest) → All (Heads F) (downTo stop F)
-  unfolding downTo
-  all-heads none = tt
-  all-heads (node x below beside) =
+  all_heads : (F : Forest) → All (Heads F) (down_to stop F)
+  unfolding down_to
+  all_heads none = tt
+  all_heads (node x below beside) =
       let H = Heads (node x below beside) in
       all_append H (here (stop below) x.label) _ (all_here H (stop below) x.label (λ t. inl refl))
-      (all_append H (map (λ ys. x.label ∷ ys) (downTo stop below)) (downTo stop beside)
-      (all_of_map (λ ys. x.label ∷ ys) H (downTo stop below) (all_of _ (λ ys. inl refl) (downTo stop below)))
-      (all_map (Heads beside) H (wider x below beside) (downTo stop beside) (all-heads beside)))
+      (all_append H (map (λ ys. x.label ∷ ys) (down_to stop below)) (down_to stop beside)
+      (all_of_map (λ ys. x.label ∷ ys) H (down_to stop below) (all_of _ (λ ys. inl refl) (down_to stop below)))
+      (all_map (Heads beside) H (wider x below beside) (down_to stop beside) (all_heads beside)))
 
-  once : (J : JobSet) (F : Forest) (c : List Label) → Part J c F → Once (downTo stop F)
-  unfolding downTo
+  once : (J : JobSet) (F : Forest) (c : List Label) → Part J c F → Once (down_to stop F)
+  unfolding down_to
   once J none c p = tt
   once J (node x below beside) c p =
       let l = x.label in
-      let down = map (λ ys. l ∷ ys) (downTo stop below) in
-      let far : (ys : List Label) → All (λ zs. l ∷ ys ≡ zs → ⊥) (downTo stop beside)
-      = λ ys. all_map (Heads beside) _ (λ zs h e. alone J c x below beside p (subst (Heads beside) (sym e) h)) (downTo stop beside) (all-heads beside) in
-      apart-append _ (here (stop below) l) (down ++ downTo stop beside) (single (stop below) l)
-      (apart-append _ down (downTo stop beside)
-      (apart-of-map (λ ys. l ∷ ys) _ (downTo stop below)
-      (apart-map _ _ (λ ys zs n e. n (cc)) (downTo stop below) (once J below (c ++ l ∷ []) (part J _ below (part-below J c x below beside p)))))
-      (once J beside c (part-beside J c x below beside p))
-      (all_of_map (λ ys. l ∷ ys) _ (downTo stop below) (all_of _ far (downTo stop below))))
-      (all_here _ (stop below) l (λ t. all_append _ down (downTo stop beside)
-      (all_of_map (λ ys. l ∷ ys) _ (downTo stop below)
-      (all_map (Heads below) _ (λ ys h e. subst (Heads below) (longer l ys e) h) (downTo stop below) (all-heads below)))
+      let down = map (λ ys. l ∷ ys) (down_to stop below) in
+      let far : (ys : List Label) → All (λ zs. l ∷ ys ≡ zs → ⊥) (down_to stop beside)
+      = λ ys. all_map (Heads beside) _ (λ zs h e. alone J c x below beside p (subst (Heads beside) (sym e) h)) (down_to stop beside) (all_heads beside) in
+      apart_append _ (here (stop below) l) (down ++ down_to stop beside) (single (stop below) l)
+      (apart_append _ down (down_to stop beside)
+      (apart_of_map (λ ys. l ∷ ys) _ (down_to stop below)
+      (apart_map _ _ (λ ys zs n e. n (cc)) (down_to stop below) (once J below (c ++ l ∷ []) (part J _ below (part_below J c x below beside p)))))
+      (once J beside c (part_beside J c x below beside p))
+      (all_of_map (λ ys. l ∷ ys) _ (down_to stop below) (all_of _ far (down_to stop below))))
+      (all_here _ (stop below) l (λ t. all_append _ down (down_to stop beside)
+      (all_of_map (λ ys. l ∷ ys) _ (down_to stop below)
+      (all_map (Heads below) _ (λ ys h e. subst (Heads below) (longer l ys e) h) (down_to stop below) (all_heads below)))
       (far [])))
     where
       single : (b : Bool) (l : Label) → Once (here b l)
@@ -192,46 +192,46 @@ module _ (stop : Forest → Bool) where
 -- ---- how many
 
 count : (stop : Forest → Bool) (x : Info) (below beside : Forest)
-    → length (downTo stop (node x below beside)) ≡ length (here (stop below) x.label) + (length (downTo stop below) + length (downTo stop beside))
-unfolding downTo
+    → length (down_to stop (node x below beside)) ≡ length (here (stop below) x.label) + (length (down_to stop below) + length (down_to stop beside))
+unfolding down_to
 count stop x below beside = simp (length-append, length-map)
 
-pub ways-count : (F : Forest) → length (ways F) ≡ size F
+pub ways_count : (F : Forest) → length (ways F) ≡ size F
 unfolding size
-ways-count none = unfold downTo in refl
-ways-count (node x below beside) = omega (arith, count (λ F. true) x below beside, ways-count below, ways-count beside)
+ways_count none = unfold down_to in refl
+ways_count (node x below beside) = omega (arith, count (λ F. true) x below beside, ways_count below, ways_count beside)
 
-pub paths-count : (F : Forest) → length (paths F) ≡ orders F
+pub paths_count : (F : Forest) → length (paths F) ≡ orders F
 unfolding orders
-paths-count none = unfold downTo in refl
-paths-count (node x none beside) = omega (arith, count bare x none beside, paths-count none, paths-count beside)
-paths-count (node x (node y below later) beside) =
-    omega (arith, count bare x (node y below later) beside, paths-count (node y below later), paths-count beside)
+paths_count none = unfold down_to in refl
+paths_count (node x none beside) = omega (arith, count bare x none beside, paths_count none, paths_count beside)
+paths_count (node x (node y below later) beside) =
+    omega (arith, count bare x (node y below later) beside, paths_count (node y below later), paths_count beside)
 
 -- ---- ways and beginnings, paths and orders
 
 module _ (J : JobSet) (F : Forest) (R : TreeOf J F) where
   -- the ways down to a node are the beginnings of orders, of one switch or more
-  pub beginnings-are-ways : (xs : List Label) → Listed xs (ways F) ↔ (Begins J xs × (xs ≡ [] → ⊥))
-  beginnings-are-ways = listed J (λ G. true) (Begins J) (record { stops = λ c l below n Q. (λ t. next-begins J c l n, λ b. tt); begins = λ xs b. b }) F R
+  pub beginnings_are_ways : (xs : List Label) → Listed xs (ways F) ↔ (Begins J xs × (xs ≡ [] → ⊥))
+  beginnings_are_ways = listed J (λ G. true) (Begins J) (record { stops = λ c l below n Q. (λ t. next_begins J c l n, λ b. tt); begins = λ xs b. b }) F R
 
-  pub ways-once : Once (ways F)
-  ways-once = once (λ G. true) J F [] (part J [] F R)
+  pub ways_once : Once (ways F)
+  ways_once = once (λ G. true) J F [] (part J [] F R)
 
-  pub paths-once : Once (paths F)
-  paths-once = once bare J F [] (part J [] F R)
+  pub paths_once : Once (paths F)
+  paths_once = once bare J F [] (part J [] F R)
 
 module _ (J : JobSet) (L : Lawful J) (end : EveryRunEnds J) where
-  order-ended : (xs : List Label) → Order J xs → Ended J.jobs xs
-  order-ended xs (time, within, e) = subst (Ended J.jobs) e (run-ended J L time (end time within))
+  order_ended : (xs : List Label) → Order J xs → Ended J.jobs xs
+  order_ended xs (time, within, e) = subst (Ended J.jobs) e (run_ended J L time (end time within))
 
   -- where nothing follows, the run is over
   leaf : (c : List Label) (l : Label) (below : Forest) → Next J c l → Right J (c ++ l ∷ []) below → T (bare below) → Order J (c ++ l ∷ [])
-  leaf c l none n R t = go (next-begins J c l n).0 (next-begins J c l n).1
+  leaf c l none n R t = go (next_begins J c l n).0 (next_begins J c l n).1
     where
       go : (ys : List Label) → Order J (c ++ l ∷ [] ++ ys) → Order J (c ++ l ∷ [])
       go [] o = rw append-nil at o
-      go (m ∷ ms) o = absurd ((R.complete m).1 (begins-next J (c ++ l ∷ []) m ms (order-begins J _ o)))
+      go (m ∷ ms) o = absurd ((R.complete m).1 (begins_next J (c ++ l ∷ []) m ms (order_begins J _ o)))
   leaf c l (node y below beside) n R t = absurd t
 
   -- where the run is over, nothing follows
@@ -239,11 +239,11 @@ module _ (J : JobSet) (L : Lawful J) (end : EveryRunEnds J) where
   last c l none R o = tt
   last c l (node y below beside) R o =
       let d = c ++ l ∷ [] in
-      let (ys, b) = next-begins J d y.label ((R.complete y.label).0 (inl refl)) in
-      no-further J.jobs d y.label ys (order-ended d o) (rw (append_assoc d (y.label ∷ []) ys) at (order-ended _ b))
+      let (ys, b) = next_begins J d y.label ((R.complete y.label).0 (inl refl)) in
+      no_further J.jobs d y.label ys (order_ended d o) (rw (append_assoc d (y.label ∷ []) ys) at (order_ended _ b))
 
   -- the ways down to a leaf are the orders
-  pub orders-are-paths : (F : Forest) → TreeOf J F → (xs : List Label) → Listed xs (paths F) ↔ Order J xs
-  orders-are-paths F R xs =
-      let K = listed J bare (Order J) (record { stops = λ c l below n Q. (leaf c l below n Q, last c l below Q); begins = order-begins J }) F R xs in
-      (λ h. (K.0 h).0, λ o. K.1 (o, λ e. subst (Ended J.jobs) e (order-ended xs o)))
+  pub orders_are_paths : (F : Forest) → TreeOf J F → (xs : List Label) → Listed xs (paths F) ↔ Order J xs
+  orders_are_paths F R xs =
+      let K = listed J bare (Order J) (record { stops = λ c l below n Q. (leaf c l below n Q, last c l below Q); begins = order_begins J }) F R xs in
+      (λ h. (K.0 h).0, λ o. K.1 (o, λ e. subst (Ended J.jobs) e (order_ended xs o)))

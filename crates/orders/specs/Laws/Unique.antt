@@ -48,45 +48,45 @@ module _ (J : JobSet) (c : List Label) where
       (subst (λ l. (t : ℕ) → ((y.earliest ≤ t) × (t ≤ y.latest)) ↔ Follows J c l (λ s. s.tick ≡ t)) (sym e) q.leaves)
       (record { switch = n.switch; makes = n.makes; label = n.label; has = refl }) in
       let starts = same_ends _ _ _ _ n.switch.start p.starts
-      (subst (λ l. (t : ℕ) → ((y.earliest-start ≤ t) × (t ≤ y.latest-start)) ↔ Follows J c l (λ s. s.start ≡ t)) (sym e) q.starts)
+      (subst (λ l. (t : ℕ) → ((y.earliest_start ≤ t) × (t ≤ y.latest_start)) ↔ Follows J c l (λ s. s.start ≡ t)) (sym e) q.starts)
       (record { switch = n.switch; makes = n.makes; label = n.label; has = refl }) in
-      λ i. record { label = e i; earliest = leaves.0 i; latest = leaves.1 i; earliest-start = starts.0 i; latest-start = starts.1 i }
+      λ i. record { label = e i; earliest = leaves.0 i; latest = leaves.1 i; earliest_start = starts.0 i; latest_start = starts.1 i }
 
   module _ (x : Info) (below beside : Forest) (p : Part J c (node x below beside)) where
-    pub head-follows : Next J c x.label
-    head-follows = p.made x.label (inl refl)
+    pub head_follows : Next J c x.label
+    head_follows = p.made x.label (inl refl)
 
-    head-exact : Exact J c x
+    head_exact : Exact J c x
     unfolding Below
-    head-exact = p.below.0
+    head_exact = p.below.0
 
-    pub part-below : Right J (c ++ x.label ∷ []) below
+    pub part_below : Right J (c ++ x.label ∷ []) below
     unfolding Below
-    part-below = record { complete = p.below.1.0; sequence = p.below.1.1; below = p.below.1.2 }
+    part_below = record { complete = p.below.1.0; sequence = p.below.1.1; below = p.below.1.2 }
 
-    pub part-beside : Part J c beside
+    pub part_beside : Part J c beside
     unfolding Below
-    part-beside = record { made = λ l h. p.made l (inr h); sequence = p.sequence.1; below = p.below.2 }
+    part_beside = record { made = λ l h. p.made l (inr h); sequence = p.sequence.1; below = p.below.2 }
 
   -- what stands ahead of siblings is earlier than each of them
   later : (F : Forest) (x y : Info) → Part J c F → Ahead y F → Exact J c x → Sibling x.label F → Earlier y x
-  later (node z below beside) x y p a q (inl e) = subst (Earlier y) (exact_same z x (head-exact z below beside p) q e (head-follows z below beside p)) a.0
-  later (node z below beside) x y p a q (inr h) = later beside x y (part-beside z below beside p) a.1 q h
+  later (node z below beside) x y p a q (inl e) = subst (Earlier y) (exact_same z x (head_exact z below beside p) q e (head_follows z below beside p)) a.0
+  later (node z below beside) x y p a q (inr h) = later beside x y (part_beside z below beside p) a.1 q h
 
   -- no later sibling has the label of the first
   pub alone : (x : Info) (below beside : Forest) → Part J c (node x below beside) → Sibling x.label beside → ⊥
   alone x below beside p h =
-      let g = later beside x x (part-beside x below beside p) p.sequence.0 (head-exact x below beside p) h in
+      let g = later beside x x (part_beside x below beside p) p.sequence.0 (head_exact x below beside p) h in
       opposed x x g g
 
   module _ (x y : Info) (below below' beside beside' : Forest) (p : Part J c (node x below beside)) (q : Part J c (node y below' beside')) where
     -- the first siblings are one: else each would stand before the other
     heads : Sibling x.label (node y below' beside') → Sibling y.label (node x below beside) → x ≡ y
-    heads (inl e) g = exact_same x y (head-exact x below beside p) (head-exact y below' beside' q) (sym e) (head-follows x below beside p)
-    heads (inr h) (inl e) = exact_same x y (head-exact x below beside p) (head-exact y below' beside' q) e (head-follows x below beside p)
+    heads (inl e) g = exact_same x y (head_exact x below beside p) (head_exact y below' beside' q) (sym e) (head_follows x below beside p)
+    heads (inr h) (inl e) = exact_same x y (head_exact x below beside p) (head_exact y below' beside' q) e (head_follows x below beside p)
     heads (inr h) (inr g) = absurd (opposed x y
-        (later beside y x (part-beside x below beside p) p.sequence.0 (head-exact y below' beside' q) g)
-        (later beside' x y (part-beside y below' beside' q) q.sequence.0 (head-exact x below beside p) h))
+        (later beside y x (part_beside x below beside p) p.sequence.0 (head_exact y below' beside' q) g)
+        (later beside' x y (part_beside y below' beside' q) q.sequence.0 (head_exact x below beside p) h))
 
     -- and so the others have the same labels
     others : x.label ≡ y.label → Covers (node x below beside) (node y below' beside') → Covers beside beside'
@@ -104,16 +104,16 @@ module _ (J : JobSet) where
   same (node x below beside) (node y below' beside') c p q to from =
       let e : x ≡ y = heads J c x y below below' beside beside' p q (to x.label (inl refl)) (from y.label (inl refl)) in
       let d : List Label = c ++ x.label ∷ [] in
-      let r : Right J d below = part-below J c x below beside p in
-      let r' : Right J d below' = rw e (part-below J c y below' beside' q) in
+      let r : Right J d below = part_below J c x below beside p in
+      let r' : Right J d below' = rw e (part_below J c y below' beside' q) in
       let down : below ≡ below' = same below below' d (part J d below r) (part J d below' r')
       (λ l h. (r'.complete l).1 ((r.complete l).0 h)) (λ l h. (r.complete l).1 ((r'.complete l).0 h)) in
-      let across : beside ≡ beside' = same beside beside' c (part-beside J c x below beside p) (part-beside J c y below' beside' q)
+      let across : beside ≡ beside' = same beside beside' c (part_beside J c x below beside p) (part_beside J c y below' beside' q)
       (others J c x y below below' beside beside' p q (ap (λ z. z.label) e) to)
       (others J c y x below' below beside' beside q p (ap (λ z. z.label) (sym e)) from) in
       λ i. node (e i) (down i) (across i)
 
   -- there is at most one tree below a beginning
-  pub one-tree : (c : List Label) (F G : Forest) → Right J c F → Right J c G → F ≡ G
-  one-tree c F G R R' = same F G c (part J c F R) (part J c G R')
+  pub one_tree : (c : List Label) (F G : Forest) → Right J c F → Right J c G → F ≡ G
+  one_tree c F G R R' = same F G c (part J c F R) (part J c G R')
       (λ l h. (R'.complete l).1 ((R.complete l).0 h)) (λ l h. (R.complete l).1 ((R'.complete l).0 h))

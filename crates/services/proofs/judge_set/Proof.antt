@@ -1,6 +1,6 @@
 use native.Mathlib.Omega.{arith}
 use borrow.Author.Tests.{not-true, not-false}
-use Rattle.services.proofs.Verdicts.{judge-small, judge-foreign, judge-done}
+use Rattle.services.proofs.Verdicts.{judge_small, judge_foreign, judge_done}
 use borrow.Author.Rules.{rules}
 use Rattle.services.proofs.judge_set.Statement.{statement}
 use Rattle.services.proofs.judge_set.Tie as tie
@@ -10,7 +10,7 @@ segments-requires c κs = search rules
 
 returns : tie.Need-returns
 returns c =
-    judge-small _ _ _ (omega (arith, c.if1.true, c.before.segments.ensures))
+    judge_small _ _ _ (omega (arith, c.if1.true, c.before.segments.ensures))
 
 times-requires : tie.Need-times-requires
 times-requires c κs = search rules
@@ -23,7 +23,7 @@ returns-2 c =
     let start = c.before.before.before.before.before.before.before.before.before in
     let told = c.before.before.before in
     let room = told.before.before in
-    judge-foreign _ _ _ start.requires told.times.ensures _ (omega (arith, room.if1.false, room.before.segments.ensures)) (c.before.replays-to.ensures.no (not-true _ c.if2.true))
+    judge_foreign _ _ _ start.requires told.times.ensures _ (omega (arith, room.if1.false, room.before.segments.ensures)) (c.before.replays-to.ensures.no (not-true _ c.if2.true))
 
 slice-aggregate-copy : tie.Need-slice-aggregate-copy
 slice-aggregate-copy c = search rules
@@ -40,7 +40,7 @@ returns-3 c =
     let told = tried.before.before in
     let room = told.before.before in
     let start = room.before.before.before.before in
-    judge-done _ _ _ start.requires told.times.ensures _ (omega (arith, room.if1.false, room.before.segments.ensures)) _ (tried.replays-to.ensures.yes (not-false _ c.before.before.before.before.before.if2.false))
+    judge_done _ _ _ start.requires told.times.ensures _ (omega (arith, room.if1.false, room.before.segments.ensures)) _ (tried.replays-to.ensures.yes (not-false _ c.before.before.before.before.before.if2.false))
     (rw (← room.before.segments.ensures) c.before.before.copy.ensures)
 
 pub judge-set-spec : {M : Type 1} → statement M

@@ -1,6 +1,6 @@
 use mathlib.Core.Path.{refl, subst}
 use Rattle.services.specs.Replay.{Replays}
-use Rattle.services.proofs.Opened.{opened-refused, opened-ready, opened-answered}
+use Rattle.services.proofs.Opened.{opened_refused, opened_ready, opened_answered}
 use borrow.Author.Rules.{rules}
 use Rattle.services.proofs.replay.Statement.{statement}
 use Rattle.services.proofs.replay.Tie as tie
@@ -9,12 +9,12 @@ open-requires : tie.Need-open-requires
 open-requires c κs = search rules
 
 returns : tie.Need-returns
-returns c = opened-refused _ c.before.before.«open».result c.before.before.«open».ensures c.if1.true (refl, refl)
+returns c = opened_refused _ c.before.before.«open».result c.before.before.«open».ensures c.if1.true (refl, refl)
 
 replay-set-requires : tie.Need-replay-set-requires
 replay-set-requires c κs =
     let opened = c.before.before.before.before.before in
-    (opened-ready _ opened.«open».result opened.«open».ensures c.before.before.before.if1.false).laid.loaded
+    (opened_ready _ opened.«open».result opened.«open».ensures c.before.before.before.if1.false).laid.loaded
 
 same_length : tie.Need-same-length
 same_length c = search rules
@@ -25,8 +25,8 @@ returns-2 c =
     let else = set.before.before.before.before in
     let opened = else.before.before in
     let z = else.if1.false in
-    opened-answered _ opened.«open».result opened.«open».ensures z
-    (subst (Replays _ _ _ _) (opened-ready _ opened.«open».result opened.«open».ensures z).laid.set set.replay-set.ensures)
+    opened_answered _ opened.«open».result opened.«open».ensures z
+    (subst (Replays _ _ _ _) (opened_ready _ opened.«open».result opened.«open».ensures z).laid.set set.replay-set.ensures)
 
 pub replay-spec : {M : Type 1} → statement M
 replay-spec = tie.close (tie.spec open-requires returns replay-set-requires same_length returns-2)

@@ -1,6 +1,6 @@
 use mathlib.Core.Path.{refl, subst}
 use Rattle.services.specs.Tree.{Trees}
-use Rattle.services.proofs.Opened.{opened-refused, opened-ready, opened-answered, opened-in-frame}
+use Rattle.services.proofs.Opened.{opened_refused, opened_ready, opened_answered, opened_in_frame}
 use borrow.Author.Rules.{rules}
 use Rattle.services.proofs.tree.Statement.{statement}
 use Rattle.services.proofs.tree.Tie as tie
@@ -10,12 +10,12 @@ open-requires c κs = search rules
 
 returns : tie.Need-returns
 returns c =
-    opened-refused _ c.before.before.«open».result c.before.before.«open».ensures c.if1.true (refl, refl)
+    opened_refused _ c.before.before.«open».result c.before.before.«open».ensures c.if1.true (refl, refl)
 
 tree-set-requires : tie.Need-tree-set-requires
 tree-set-requires c κs =
     let opened = c.before.before.before.before.before in
-    opened-in-frame _ opened.«open».result (opened-ready _ opened.«open».result opened.«open».ensures c.before.before.before.if1.false)
+    opened_in_frame _ opened.«open».result (opened_ready _ opened.«open».result opened.«open».ensures c.before.before.before.if1.false)
 
 same_length : tie.Need-same-length
 same_length c = search rules
@@ -26,8 +26,8 @@ returns-2 c =
     let else = set.before.before.before.before in
     let opened = else.before.before in
     let z = else.if1.false in
-    opened-answered _ opened.«open».result opened.«open».ensures z
-    (subst (Trees _ _ _) (opened-ready _ opened.«open».result opened.«open».ensures z).laid.set set.tree_set.ensures)
+    opened_answered _ opened.«open».result opened.«open».ensures z
+    (subst (Trees _ _ _) (opened_ready _ opened.«open».result opened.«open».ensures z).laid.set set.tree_set.ensures)
 
 pub tree-spec : {M : Type 1} → statement M
 tree-spec = tie.close (tie.spec open-requires returns tree-set-requires same_length returns-2)

@@ -1,4 +1,4 @@
-use Rattle.services.proofs.Grew.{draws-as}
+use Rattle.services.proofs.Grew.{draws_as}
 use borrow.Author.Rules.{rules}
 use Rattle.services.proofs.tree_set.Statement.{statement}
 use Rattle.services.proofs.tree_set.Tie as tie
@@ -19,7 +19,7 @@ returns : tie.Need-returns
 returns c =
     let tree = c.before.before.before.before.before in
     let start = tree.before.before.before in
-    draws-as _ _ _ start.requires tree.tree.result tree.tree.ensures _ c.before.count.given.1
+    draws_as _ _ _ start.requires tree.tree.result tree.tree.ensures _ c.before.count.given.1
 
 same-length-2 : tie.Need-same-length-2
 same-length-2 c = search rules
@@ -28,7 +28,7 @@ returns-2 : tie.Need-returns-2
 returns-2 c =
     let tree = c.before.before.before.before in
     let start = tree.before.before.before in
-    draws-as _ _ _ start.requires tree.tree.result tree.tree.ensures _ c.enum_told.given.1
+    draws_as _ _ _ start.requires tree.tree.result tree.tree.ensures _ c.enum_told.given.1
 
 pub tree-set-spec : {M : Type 1} → statement M
 tree-set-spec =

@@ -2,14 +2,14 @@ use Prim.Native.Nat.{◌+◌, ◌-◌, ◌≤◌}
 use native.Mathlib.Omega.{arith}
 use mathlib.Core.Path.{◌≡◌, refl}
 use borrow.Author.Rules.{rules}
-use Rattle.kernel.specs.Laws.Sums.{sum-none, sum_more, sum-all, sum-rises}
+use Rattle.kernel.specs.Laws.Sums.{sum_none, sum_more, sum_all, sum_rises}
 use Rattle.kernel.specs.Jobs.{sum}
-use Rattle.kernel.specs.Words.{setOf}
+use Rattle.kernel.specs.Words.{set_of}
 use Rattle.walk.proofs.enough.Statement.{statement}
 use Rattle.walk.proofs.enough.Tie as tie
 
 abbrev invariant-loop : tie.invariant-loop
-invariant-loop set n total₀ i₀ total i = (i ≤ n) × (n ≡ (setOf set).jobs) × (total ≡ sum (setOf set).segments i)
+invariant-loop set n total₀ i₀ total i = (i ≤ n) × (n ≡ (set_of set).jobs) × (total ≡ sum (set_of set).segments i)
 
 abbrev decreases-loop : tie.decreases-loop
 decreases-loop set n total₀ i₀ total i = n - i
@@ -19,7 +19,7 @@ jobs-requires c κs = search rules
 
 loop-holds : tie.Need-loop-init invariant-loop decreases-loop
 loop-holds c =
-    (omega arith, c.jobs.ensures, sum-none _)
+    (omega arith, c.jobs.ensures, sum_none _)
 
 segments-requires : tie.Need-segments-requires invariant-loop decreases-loop
 segments-requires c κs = search rules
@@ -31,11 +31,11 @@ add_total : tie.Need-overflow-add-total invariant-loop decreases-loop
 add_total c =
     let at = c.before.before in
     let entry = at.before.before in
-    let f = (setOf entry.args.set.now).segments in
+    let f = (set_of entry.args.set.now).segments in
     let more = sum_more f at.loop.i _ _ _ at.loop.invariant.2 c.segments.ensures refl in
     let inside = c.before.loop-test.true in
-    let whole = sum-rises f (at.loop.i + 1) (setOf entry.args.set.now).jobs (omega (arith, at.loop.invariant.1)) in
-    omega (arith, entry.requires.few-segments)
+    let whole = sum_rises f (at.loop.i + 1) (set_of entry.args.set.now).jobs (omega (arith, at.loop.invariant.1)) in
+    omega (arith, entry.requires.few_segments)
 
 add-i : tie.Need-overflow-add-i invariant-loop decreases-loop
 add-i c = search rules
@@ -52,8 +52,8 @@ add-result : tie.Need-overflow-add-result invariant-loop decreases-loop
 add-result c =
     let at = c.before in
     let entry = at.before.before in
-    let all = sum-all _ (setOf entry.args.set.now).jobs _ _ (omega (arith, at.loop.invariant.1)) (omega (arith, at.loop.invariant.1, c.loop-test.false)) at.loop.invariant.2 in
-    omega (arith, all, entry.requires.few-segments, entry.requires.few-jobs, at.loop.invariant.1)
+    let all = sum_all _ (set_of entry.args.set.now).jobs _ _ (omega (arith, at.loop.invariant.1)) (omega (arith, at.loop.invariant.1, c.loop-test.false)) at.loop.invariant.2 in
+    omega (arith, all, entry.requires.few_segments, entry.requires.few_jobs, at.loop.invariant.1)
 
 sub-result : tie.Need-overflow-sub-result invariant-loop decreases-loop
 sub-result c = search rules
@@ -62,7 +62,7 @@ returns : tie.Need-returns invariant-loop decreases-loop
 returns c =
     let at = c.before in
     let entry = at.before.before in
-    let all = sum-all _ (setOf entry.args.set.now).jobs _ _ (omega (arith, at.loop.invariant.1)) (omega (arith, at.loop.invariant.1, c.loop-test.false)) at.loop.invariant.2 in
+    let all = sum_all _ (set_of entry.args.set.now).jobs _ _ (omega (arith, at.loop.invariant.1)) (omega (arith, at.loop.invariant.1, c.loop-test.false)) at.loop.invariant.2 in
     omega (arith, all, at.loop.invariant.1)
 
 pub enough-spec : {M : Type 1} → statement M

@@ -1,6 +1,6 @@
 use borrow.Author.Rules.{rules}
 use Rattle.walk.specs.Laws.Counting.{count_none}
-use Rattle.walk.specs.Laws.Root.{root-ask, root-passed}
+use Rattle.walk.specs.Laws.Root.{root_ask, root_passed}
 use Rattle.walk.proofs.pass.Statement.{statement}
 use Rattle.walk.proofs.pass.Tie as tie
 
@@ -22,7 +22,7 @@ hang-requires c κs =
     let next = first.before.before in
     let fresh = next.before.before in
     let entry = fresh.before.before in
-    rw count_none (root-ask entry.args.set.now fresh.fresh.result entry.requires.loaded fresh.fresh.ensures first.first.result first.first.ensures
+    rw count_none (root_ask entry.args.set.now fresh.fresh.result entry.requires.loaded fresh.fresh.ensures first.first.result first.first.ensures
     _ _ _ c.enough.ensures entry.requires.most next.first-unfinished.ensures)
 
 same_length : tie.Need-same-length
@@ -34,7 +34,7 @@ returns c =
     let first = hung.before.before.before.before in
     let fresh = first.before.before.before.before in
     let entry = fresh.before.before in
-    root-passed entry.args.set.now fresh.fresh.result entry.requires.loaded fresh.fresh.ensures first.first.result first.first.ensures
+    root_passed entry.args.set.now fresh.fresh.result entry.requires.loaded fresh.fresh.ensures first.first.result first.first.ensures
     _ _ _ _ _ _ hung.before.enough.ensures (rw count_none at hung.hang.ensures)
 
 pub pass_spec : {M : Type 1} → statement M

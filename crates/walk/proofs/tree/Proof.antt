@@ -1,6 +1,6 @@
 use borrow.Author.Rules.{rules}
 use Rattle.walk.specs.Count.{count_of}
-use Rattle.walk.specs.Laws.Whole.{walked-large, walked_whole}
+use Rattle.walk.specs.Laws.Whole.{walked_large, walked_whole}
 use Rattle.walk.proofs.tree.Statement.{statement}
 use Rattle.walk.proofs.tree.Tie as tie
 
@@ -24,7 +24,7 @@ returns c =
     let first = c.before.before.before in
     let room = first.before.before in
     let entry = room.before.before in
-    walked-large entry.args.set.now entry.requires entry.args.words.now room.room_of.result room.room_of.ensures _ _ (count_of first.pass.result)
+    walked_large entry.args.set.now entry.requires entry.args.words.now room.room_of.result room.room_of.ensures _ _ (count_of first.pass.result)
     first.pass.ensures (rw c.before.nodes.ensures at c.if1.true)
 
 add-pass-2 : tie.Need-overflow-add-pass-2

@@ -9,22 +9,22 @@ use Rattle.kernel.specs.Rules.{JobSet}
 use Rattle.kernel.specs.Laws.Tests.{if-lt, if-ge}
 use Rattle.kernel.specs.Laws.Step.{State}
 use Rattle.orders.specs.Orders.{Forest, none, node, size}
-use Rattle.orders.specs.Nodes.{nodeWords}
+use Rattle.orders.specs.Nodes.{node_words}
 use Rattle.orders.specs.Laws.Box.{Box, Child, leaves, cuts, children}
-use Rattle.orders.specs.Laws.Walk.{hang, infoFor, following, grow}
+use Rattle.orders.specs.Laws.Walk.{hang, info_for, following, grow}
 use Rattle.orders.specs.Laws.Words.{words}
 use Rattle.walk.specs.Descent.{ends}
 
 module _ (J : JobSet) (below : State → Box → Forest) where
-  pub size-append : (xs ys : List Child) → size (hang below (xs ++ ys)) ≡ size (hang below xs) + size (hang below ys)
+  pub size_append : (xs ys : List Child) → size (hang below (xs ++ ys)) ≡ size (hang below xs) + size (hang below ys)
   unfolding hang size
-  size-append [] ys = omega arith
-  size-append (x ∷ xs) ys = omega (arith, size-append xs ys)
+  size_append [] ys = omega arith
+  size_append (x ∷ xs) ys = omega (arith, size_append xs ys)
 
-  pub ends-append : (xs ys : List Child) → ends J (hang below (xs ++ ys)) ≡ ends J (hang below xs) + ends J (hang below ys)
+  pub ends_append : (xs ys : List Child) → ends J (hang below (xs ++ ys)) ≡ ends J (hang below xs) + ends J (hang below ys)
   unfolding hang ends
-  ends-append [] ys = omega arith
-  ends-append (x ∷ xs) ys = omega (arith, ends-append xs ys)
+  ends_append [] ys = omega arith
+  ends_append (x ∷ xs) ys = omega (arith, ends_append xs ys)
 
   pub words_append : (parent at : ℕ) (xs ys : List Child)
       → words J parent at (hang below (xs ++ ys)) ≡ words J parent at (hang below xs) ++ words J parent (at + size (hang below xs)) (hang below ys)
@@ -35,31 +35,31 @@ module _ (J : JobSet) (below : State → Box → Forest) where
       let first : List ℕ = words J at (at + 1) (below x.state x.box) in
       let later : List ℕ = words J parent (at + 1 + n) (hang below xs) in
       let e : at + 1 + n + size (hang below xs) ≡ at + suc (n + size (hang below xs)) = omega arith in
-      ap (λ l. nodeWords J (parent, infoFor x) ++ l)
+      ap (λ l. node_words J (parent, info_for x) ++ l)
       (ap (λ l. first ++ l) (words_append parent (at + 1 + n) xs ys ∙ ap (λ i. later ++ words J parent i (hang below ys)) e) ∙ sym (append_assoc first later _))
 
 -- ---- what grows
 
-pub hang-none : (below : State → Box → Forest) → hang below [] ≡ none
+pub hang_none : (below : State → Box → Forest) → hang below [] ≡ none
 unfolding hang
-hang-none below = refl
+hang_none below = refl
 
-pub hang-one : (below : State → Box → Forest) (x : Child) → hang below (x ∷ []) ≡ node (infoFor x) (below x.state x.box) none
+pub hang_one : (below : State → Box → Forest) (x : Child) → hang below (x ∷ []) ≡ node (info_for x) (below x.state x.box) none
 unfolding hang
-hang-one below x = refl
+hang_one below x = refl
 
 module _ (J : JobSet) (S : State) (B : Box) where
-  pub grow-zero : (f : ℕ) → f ≡ 0 → grow J f S B ≡ none
+  pub grow_zero : (f : ℕ) → f ≡ 0 → grow J f S B ≡ none
   unfolding grow
-  grow-zero f e = rw e
+  grow_zero f e = rw e
 
   -- where no job runs, nothing
-  pub grow-idle : (f : ℕ) → J.jobs ≤ S.job → grow J f S B ≡ none
+  pub grow_idle : (f : ℕ) → J.jobs ≤ S.job → grow J f S B ≡ none
   unfolding grow following hang
-  grow-idle zero h = refl
-  grow-idle (suc f) h = rw (if-ge S.job J.jobs (children J S B) [] h)
+  grow_idle zero h = refl
+  grow_idle (suc f) h = rw (if-ge S.job J.jobs (children J S B) [] h)
 
-  pub grow-some : (f : ℕ) → 0 < f → S.job < J.jobs → grow J f S B ≡ hang (grow J (f - 1)) (leaves J S B ++ cuts J S B)
+  pub grow_some : (f : ℕ) → 0 < f → S.job < J.jobs → grow J f S B ≡ hang (grow J (f - 1)) (leaves J S B ++ cuts J S B)
   unfolding grow following children
-  grow-some zero z h = absurd (omega arith)
-  grow-some (suc f) z h = let e : suc f - 1 ≡ f = omega arith in rw (e, if-lt S.job J.jobs (children J S B) [] h)
+  grow_some zero z h = absurd (omega arith)
+  grow_some (suc f) z h = let e : suc f - 1 ≡ f = omega arith in rw (e, if-lt S.job J.jobs (children J S B) [] h)

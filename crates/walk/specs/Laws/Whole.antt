@@ -3,27 +3,27 @@ use Rattle.std.specs.Prelude.{ℕ, ◌+◌, ◌≤◌, ◌<◌, ◌≡◌, refl,
 use Rattle.std.proofs.Common.{arith, sym, ap, ap₂, ◌∙◌}
 use Rattle.std.proofs.lemmas.List.Edits.{sets}
 use Rattle.kernel.specs.Rules.{JobSet}
-use Rattle.kernel.specs.Words.{setOf, Loaded}
+use Rattle.kernel.specs.Words.{set_of, Loaded}
 use Rattle.orders.specs.Orders.{Forest, size}
 use Rattle.orders.specs.Nodes.{orders}
-use Rattle.orders.specs.Laws.Walk.{theTree}
-use Rattle.orders.specs.Laws.Words.{tree-words}
-use Rattle.walk.specs.Tree.{roomOf, Passed, Walked}
-use Rattle.walk.specs.Laws.Ends.{ends-orders}
+use Rattle.orders.specs.Laws.Walk.{the_tree}
+use Rattle.orders.specs.Laws.Words.{tree_words_lem}
+use Rattle.walk.specs.Tree.{room_of, Passed, Walked}
+use Rattle.walk.specs.Laws.Ends.{ends_orders}
 use Rattle.walk.specs.declared.Found.TheVariants.{Whole, TooLarge}
 use Rattle.walk.specs.Count.{Count}
 
-module _ (w : List ℕ) (L : Loaded w) (words : List ℕ) (room : ℕ) (is : room ≡ roomOf (length words))
+module _ (w : List ℕ) (L : Loaded w) (words : List ℕ) (room : ℕ) (is : room ≡ room_of (length words))
     (scrap scrap' : List ℕ) (seen : Count) (P : Passed w (room + 1) scrap scrap' seen) where
   abbrev J : JobSet
-  J = setOf w
+  J = set_of w
 
   abbrev tree : Forest
-  tree = theTree J
+  tree = the_tree J
 
   -- more nodes were counted than there is room for
-  pub walked-large : room < seen.nodes → Walked J words words TooLarge
-  walked-large h = record { whole = λ q. absurd (omega (arith, P.nodes)); large = λ q. (refl, refl) }
+  pub walked_large : room < seen.nodes → Walked J words words TooLarge
+  walked_large h = record { whole = λ q. absurd (omega (arith, P.nodes)); large = λ q. (refl, refl) }
 
   -- there is room for all
   pub walked_whole : seen.nodes ≤ room → (words' : List ℕ) (all : Count) → Passed w (room + 1) words words' all
@@ -32,8 +32,8 @@ module _ (w : List ℕ) (L : Loaded w) (words : List ℕ) (room : ℕ) (is : roo
       let fits : size tree ≤ room = omega (arith, P.nodes) in
       let (written, ended) = Q.full (omega arith) in
       let nodes : all.nodes ≡ size tree = omega (arith, Q.nodes) in
-      let paths : all.orders ≡ orders tree = omega (arith, ends-orders J L.lawful) in
+      let paths : all.orders ≡ orders tree = omega (arith, ends_orders J L.lawful) in
       record {
-        whole = λ q. (ap₂ Whole nodes paths, written ∙ ap (sets words 0) (sym (tree-words J tree)));
+        whole = λ q. (ap₂ Whole nodes paths, written ∙ ap (sets words 0) (sym (tree_words_lem J tree)));
         large = λ q. absurd (omega arith);
       }

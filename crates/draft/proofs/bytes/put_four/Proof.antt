@@ -1,4 +1,4 @@
-use Rattle.draft.specs.Laws.Stores.{four-stores}
+use Rattle.draft.specs.Laws.Stores.{four_stores}
 use borrow.Author.Rules.{rules}
 use Rattle.draft.proofs.bytes.put_four.Statement.{statement}
 use Rattle.draft.proofs.bytes.put_four.Tie as tie
@@ -47,7 +47,7 @@ returns c =
     let s1 = s2.before.before.before.before.before in
     let entry = s1.before.before.before.before in
     rw (← s1.before.low.ensures, ← s2.before.low2.ensures, ← s3.before.low3.ensures, ← s4.before.low4.ensures)
-    (four-stores entry.args.bytes.now s1.store.new.0 s2.store2.new.0 s3.store3.new.0 s4.store4.new.0
+    (four_stores entry.args.bytes.now s1.store.new.0 s2.store2.new.0 s3.store3.new.0 s4.store4.new.0
     entry.args.i _ _ _ _ s1.store.ensures s2.store2.ensures s3.store3.ensures s4.store4.ensures)
 
 pub put-four-spec : {M : Type 1} → statement M

@@ -1,7 +1,7 @@
 use mathlib.Core.Path.{refl}
 use mathlib.Core.List.{[], ◌∷◌, ◌++◌}
-use Rattle.draft.specs.Bytes.{four, recordBytes}
-use Rattle.draft.specs.Laws.Stores.{then-stores}
+use Rattle.draft.specs.Bytes.{four, record_bytes}
+use Rattle.draft.specs.Laws.Stores.{then_stores}
 use borrow.Author.Rules.{rules}
 use Rattle.draft.proofs.bytes.put_segment.Statement.{statement}
 use Rattle.draft.proofs.bytes.put_segment.Tie as tie
@@ -37,7 +37,7 @@ same_length : tie.Need-same-length
 same_length c = search rules
 
 returns : tie.Need-returns
-unfolding recordBytes
+unfolding record_bytes
 returns c =
     let p4 = c.before.before in
     let p3 = p4.before.before.before.before.before.before in
@@ -47,9 +47,9 @@ returns c =
     let a = entry.args.bytes.now in
     let i = entry.args.i in
     rw (← p4.before.before.low.ensures, ← p4.before.low2.ensures)
-    (then-stores a p3.put-four2.new.0 p4.put-two2.new.0 ((0x53 ∷ 0x47 ∷ four entry.args.shortest) ++ four entry.args.longest) (p4.before.before.low.result ∷ p4.before.low2.result ∷ []) i _ refl
-    (then-stores a p2.put_four.new.0 p3.put-four2.new.0 (0x53 ∷ 0x47 ∷ four entry.args.shortest) (four entry.args.longest) i _ refl
-    (then-stores a p1.put_two.new.0 p2.put_four.new.0 (0x53 ∷ 0x47 ∷ []) (four entry.args.shortest) i _ refl p1.put_two.ensures p2.put_four.ensures)
+    (then_stores a p3.put-four2.new.0 p4.put-two2.new.0 ((0x53 ∷ 0x47 ∷ four entry.args.shortest) ++ four entry.args.longest) (p4.before.before.low.result ∷ p4.before.low2.result ∷ []) i _ refl
+    (then_stores a p2.put_four.new.0 p3.put-four2.new.0 (0x53 ∷ 0x47 ∷ four entry.args.shortest) (four entry.args.longest) i _ refl
+    (then_stores a p1.put_two.new.0 p2.put_four.new.0 (0x53 ∷ 0x47 ∷ []) (four entry.args.shortest) i _ refl p1.put_two.ensures p2.put_four.ensures)
     p3.put-four2.ensures)
     p4.put-two2.ensures)
 

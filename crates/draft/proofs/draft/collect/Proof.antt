@@ -1,5 +1,5 @@
 use mathlib.Core.Path.{refl}
-use Rattle.draft.specs.Laws.TextLines.{Going, line-inside, go_on, stops}
+use Rattle.draft.specs.Laws.TextLines.{Going, line_inside, go_on, stops}
 use lib.ListN.{length}
 use Prim.Native.Nat.{◌-◌}
 use native.Mathlib.Omega.{arith}
@@ -22,11 +22,11 @@ loop-holds c =
     record {
       inside = c.new.ensures.0;
       fits = omega arith;
-      same-made = refl;
+      same_made = refl;
       same_lines = refl;
       so_far = _;
       drawn = c.new.ensures.1 entry.args.text.now _ _ entry.requires.0 entry.requires.1 entry.requires.2;
-      to-come = refl;
+      to_come_lem = refl;
     }
 
 read-requires : tie.Need-read-requires invariant-loop decreases-loop
@@ -62,7 +62,7 @@ loop-less : tie.Need-loop-smaller invariant-loop decreases-loop
 loop-less c =
     let end = c.before.before in
     let loop = end.before.before.before.before.before.before.before.before in
-    omega (arith, line-inside _ _ _ _ _ _ _ _ _ loop.loop.invariant end.line-end.ensures, c.before.if1.false)
+    omega (arith, line_inside _ _ _ _ _ _ _ _ _ loop.loop.invariant end.line-end.ensures, c.before.if1.false)
 
 loop-again : tie.Need-loop-preserved invariant-loop decreases-loop
 loop-again c =

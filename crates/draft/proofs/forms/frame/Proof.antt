@@ -1,4 +1,4 @@
-use Rattle.draft.specs.Laws.Lines.{frame-not, frame-more, frame-whole}
+use Rattle.draft.specs.Laws.Lines.{frame_not, frame_more, frame_whole}
 use borrow.Author.Rules.{rules}
 use Rattle.draft.proofs.forms.frame.Statement.{statement}
 use Rattle.draft.proofs.forms.frame.Tie as tie
@@ -16,7 +16,7 @@ enum_told : tie.Need-enum-told
 enum_told c = search rules
 
 returns : tie.Need-returns
-returns c = search frame-not
+returns c = search frame_not
 
 past-requires : tie.Need-past-requires
 past-requires c κs = search rules
@@ -25,10 +25,10 @@ at-end-requires : tie.Need-at-end-requires
 at-end-requires c κs = search rules
 
 returns-2 : tie.Need-returns-2
-returns-2 c = search frame-more
+returns-2 c = search frame_more
 
 returns-3 : tie.Need-returns-3
-returns-3 c = search frame-whole
+returns-3 c = search frame_whole
 
 pub frame-spec : {M : Type 1} → statement M
 frame-spec =

@@ -1,4 +1,4 @@
-use Rattle.draft.specs.Laws.Lines.{job-nameless, job-misspelt, job-goes}
+use Rattle.draft.specs.Laws.Lines.{job_nameless, job_misspelt, job_goes}
 use borrow.Author.Rules.{rules}
 use Rattle.draft.proofs.forms.job.Statement.{statement}
 use Rattle.draft.proofs.forms.job.Tie as tie
@@ -7,7 +7,7 @@ at-end-requires : tie.Need-at-end-requires
 at-end-requires c κs = search rules
 
 returns : tie.Need-returns
-returns c = search job-nameless
+returns c = search job_nameless
 
 past-requires : tie.Need-past-requires
 past-requires c κs = search rules
@@ -22,7 +22,7 @@ same-requires : tie.Need-same-requires
 same-requires c κs = search rules
 
 returns-2 : tie.Need-returns-2
-returns-2 c = search job-misspelt
+returns-2 c = search job_misspelt
 
 past-requires-2 : tie.Need-past-requires-2
 past-requires-2 c κs = search rules
@@ -31,7 +31,7 @@ release-requires : tie.Need-release-requires
 release-requires c κs = search rules
 
 returns-3 : tie.Need-returns-3
-returns-3 c = search job-goes
+returns-3 c = search job_goes
 
 pub job-spec : {M : Type 1} → statement M
 job-spec =

@@ -1,4 +1,4 @@
-use Rattle.draft.specs.Laws.SegmentLines.{line-empty, line_frame, line-job, line-segment, line-unknown}
+use Rattle.draft.specs.Laws.SegmentLines.{line_empty, line_frame, line_job, line_segment, line_unknown}
 use borrow.Author.Rules.{rules}
 use Rattle.draft.proofs.forms.line_at.Statement.{statement}
 use Rattle.draft.proofs.forms.line_at.Tie as tie
@@ -7,7 +7,7 @@ at-end-requires : tie.Need-at-end-requires
 at-end-requires c κs = search rules
 
 returns : tie.Need-returns
-returns c = λ ns h. search line-empty
+returns c = λ ns h. search line_empty
 
 word-requires : tie.Need-word-requires
 word-requires c κs = search rules
@@ -43,7 +43,7 @@ job-requires : tie.Need-job-requires
 job-requires c κs = search rules
 
 returns-3 : tie.Need-returns-3
-returns-3 c = λ ns h. search line-job
+returns-3 c = λ ns h. search line_job
 
 word-requires-3 : tie.Need-word-requires-3
 word-requires-3 c κs = search rules
@@ -73,7 +73,7 @@ returns-4 c =
     let word = same.before.before in
     let some = word.before in
     let end = some.before in
-    λ ns h. line-segment _ _ ns h _ _ _ _ end.at-end.ensures some.if1.false word.word.ensures same.same.ensures no.if2.false _ _ word2.word2.ensures same2.same2.ensures
+    λ ns h. line_segment _ _ ns h _ _ _ _ end.at-end.ensures some.if1.false word.word.ensures same.same.ensures no.if2.false _ _ word2.word2.ensures same2.same2.ensures
     no2.if3.false _ _ word3.word3.ensures same3.same3.ensures past.before.if4.true _ _ past.past3.ensures.rest c.segment.ensures
 
 returns-5 : tie.Need-returns-5
@@ -88,7 +88,7 @@ returns-5 c =
     let word = same.before.before in
     let some = word.before in
     let end = some.before in
-    λ ns h. line-unknown _ _ ns h _ _ _ _ end.at-end.ensures some.if1.false word.word.ensures same.same.ensures no.if2.false _ _ word2.word2.ensures same2.same2.ensures
+    λ ns h. line_unknown _ _ ns h _ _ _ _ end.at-end.ensures some.if1.false word.word.ensures same.same.ensures no.if2.false _ _ word2.word2.ensures same2.same2.ensures
     no2.if3.false _ _ word3.word3.ensures same3.same3.ensures c.if4.false
 
 pub line-at-spec : {M : Type 1} → statement M

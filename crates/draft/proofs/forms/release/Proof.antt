@@ -1,4 +1,4 @@
-use Rattle.draft.specs.Laws.Lines.{release-not, release-misspelt, release-goes}
+use Rattle.draft.specs.Laws.Lines.{release_not, release_misspelt, release_goes}
 use borrow.Author.Rules.{rules}
 use Rattle.draft.proofs.forms.release.Statement.{statement}
 use Rattle.draft.proofs.forms.release.Tie as tie
@@ -16,7 +16,7 @@ enum_told : tie.Need-enum-told
 enum_told c = search rules
 
 returns : tie.Need-returns
-returns c = search release-not
+returns c = search release_not
 
 past-requires : tie.Need-past-requires
 past-requires c κs = search rules
@@ -31,7 +31,7 @@ same-requires : tie.Need-same-requires
 same-requires c κs = search rules
 
 returns-2 : tie.Need-returns-2
-returns-2 c = search release-misspelt
+returns-2 c = search release_misspelt
 
 past-requires-2 : tie.Need-past-requires-2
 past-requires-2 c κs = search rules
@@ -40,7 +40,7 @@ priority-requires : tie.Need-priority-requires
 priority-requires c κs = search rules
 
 returns-3 : tie.Need-returns-3
-returns-3 c = search release-goes
+returns-3 c = search release_goes
 
 pub release_spec : {M : Type 1} → statement M
 release_spec =

@@ -1,4 +1,4 @@
-use Rattle.draft.specs.Laws.SegmentLines.{segment-not, segment-half, segment-goes}
+use Rattle.draft.specs.Laws.SegmentLines.{segment_not, segment_half, segment_goes}
 use borrow.Author.Rules.{rules}
 use Rattle.draft.proofs.forms.segment.Statement.{statement}
 use Rattle.draft.proofs.forms.segment.Tie as tie
@@ -16,7 +16,7 @@ enum_told : tie.Need-enum-told
 enum_told c = search rules
 
 returns : tie.Need-returns
-returns c = λ ns h. search segment-not
+returns c = λ ns h. search segment_not
 
 past-requires : tie.Need-past-requires
 past-requires c κs = search rules
@@ -34,7 +34,7 @@ enum-told-2 : tie.Need-enum-told-2
 enum-told-2 c = search rules
 
 returns-2 : tie.Need-returns-2
-returns-2 c = λ ns h. search segment-half
+returns-2 c = λ ns h. search segment_half
 
 past-requires-2 : tie.Need-past-requires-2
 past-requires-2 c κs = search rules
@@ -43,7 +43,7 @@ holds-requires : tie.Need-holds-requires
 holds-requires c κs = search rules
 
 returns-3 : tie.Need-returns-3
-returns-3 c = λ ns h. search segment-goes
+returns-3 c = λ ns h. search segment_goes
 
 pub segment-spec : {M : Type 1} → statement M
 segment-spec =

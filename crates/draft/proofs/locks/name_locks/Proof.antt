@@ -4,8 +4,8 @@ use mathlib.Core.List.{List}
 use borrow.Author.Tests.{not-true, not-false}
 use Rattle.draft.specs.Words.{words_of}
 use Rattle.draft.specs.Known.{Knows}
-use Rattle.draft.specs.Laws.Lexing.{word-before-end}
-use Rattle.draft.specs.Laws.Knowing.{Naming, naming-start, naming-step, naming-full, naming-over}
+use Rattle.draft.specs.Laws.Lexing.{word_before_end}
+use Rattle.draft.specs.Laws.Knowing.{Naming, naming_start, naming_step, naming_full, naming_over}
 use Prim.Native.Nat.{ℕ, ◌-◌}
 use native.Mathlib.Omega.{arith}
 use borrow.Author.Rules.{rules}
@@ -19,7 +19,7 @@ abbrev decreases-loop : tie.decreases-loop
 decreases-loop text from known names₀ held₀ at₀ names held at = length text - at
 
 loop-holds : tie.Need-loop-init invariant-loop decreases-loop
-loop-holds c = λ ns h. naming-start _ _ _ ns h
+loop-holds c = λ ns h. naming_start _ _ _ ns h
 
 at-end-requires : tie.Need-at-end-requires invariant-loop decreases-loop
 at-end-requires c κs = search rules
@@ -32,7 +32,7 @@ returns c =
     let number = c.before in
     let end = number.before.before in
     let loop = end.before in
-    λ ns h. naming-full loop.before.before.args.text.now _ _ _ _ ns _ (loop.loop.invariant ns h) (sym end.at-end.ensures ∙ not-true _ number.before.if1.true) number.number_of_lem.ensures _ c.if2.true refl
+    λ ns h. naming_full loop.before.before.args.text.now _ _ _ _ ns _ (loop.loop.invariant ns h) (sym end.at-end.ensures ∙ not-true _ number.before.if1.true) number.number_of_lem.ensures _ c.if2.true refl
 
 knowing-requires : tie.Need-knowing-requires invariant-loop decreases-loop
 knowing-requires c κs = search rules
@@ -48,7 +48,7 @@ loop-less c =
     let end = c.before.before.before.before.before.before in
     let loop = end.before in
     let some = sym end.at-end.ensures ∙ not-true _ c.before.before.before.before.before.if1.true in
-    omega (arith, word-before-end loop.before.before.args.text.now loop.loop.at some, c.past.ensures.further some)
+    omega (arith, word_before_end loop.before.before.args.text.now loop.loop.at some, c.past.ensures.further some)
 
 loop-again : tie.Need-loop-preserved invariant-loop decreases-loop
 loop-again c =
@@ -58,14 +58,14 @@ loop-again c =
     let number = small.before in
     let end = number.before.before in
     let loop = end.before in
-    λ ns h. naming-step loop.before.before.args.text.now _ _ _ _ ns _ (loop.loop.invariant ns h) (sym end.at-end.ensures ∙ not-true _ number.before.if1.true) number.number_of_lem.ensures
+    λ ns h. naming_step loop.before.before.args.text.now _ _ _ _ ns _ (loop.loop.invariant ns h) (sym end.at-end.ensures ∙ not-true _ number.before.if1.true) number.number_of_lem.ensures
     _ _ _ small.if2.false knowing.knowing.ensures bit.with-bit.ensures c.past.ensures
 
 returns-2 : tie.Need-returns-2 invariant-loop decreases-loop
 returns-2 c =
     let end = c.before in
     let loop = end.before in
-    λ ns h. naming-over loop.before.before.args.text.now _ _ _ ns _ _ (loop.loop.invariant ns h) (sym end.at-end.ensures ∙ not-false _ c.if1.false) refl refl refl
+    λ ns h. naming_over loop.before.before.args.text.now _ _ _ ns _ _ (loop.loop.invariant ns h) (sym end.at-end.ensures ∙ not-false _ c.if1.false) refl refl refl
 
 pub name-locks-spec : {M : Type 1} → statement M
 name-locks-spec =

@@ -1,4 +1,4 @@
-use Rattle.draft.specs.Laws.Knowing.{Seeking, seek-start, seek-more, seek_found, seek-over}
+use Rattle.draft.specs.Laws.Knowing.{Seeking, seek_start, seek_more, seek_found, seek_over}
 use Prim.Native.Nat.{◌-◌}
 use borrow.Author.Rules.{rules}
 use Rattle.draft.proofs.locks.number_of.Statement.{statement}
@@ -11,7 +11,7 @@ abbrev decreases-loop : tie.decreases-loop
 decreases-loop text names at k₀ k = names.count - k
 
 loop-holds : tie.Need-loop-init invariant-loop decreases-loop
-loop-holds c = seek-start _ _ _
+loop-holds c = seek_start _ _ _
 
 place-requires : tie.Need-place-requires invariant-loop decreases-loop
 place-requires c κs = search rules
@@ -49,10 +49,10 @@ loop-again c =
     let place = word.before in
     let test = place.before in
     let loop = test.before.before in
-    seek-more _ _ _ _ _ _ _ _ loop.loop.invariant test.if1.true place.place.ensures word.word.ensures word2.word2.ensures same.same.ensures c.if2.false
+    seek_more _ _ _ _ _ _ _ _ loop.loop.invariant test.if1.true place.place.ensures word.word.ensures word2.word2.ensures same.same.ensures c.if2.false
 
 returns-2 : tie.Need-returns-2 invariant-loop decreases-loop
-returns-2 c = seek-over _ _ _ _ c.before.before.loop.invariant c.if1.false
+returns-2 c = seek_over _ _ _ _ c.before.before.loop.invariant c.if1.false
 
 pub number-of-spec : {M : Type 1} → statement M
 number-of-spec =

@@ -1,4 +1,4 @@
-use Rattle.draft.specs.Laws.Runs.{inside-any}
+use Rattle.draft.specs.Laws.Runs.{inside_any}
 use mathlib.Core.Path.{sym}
 use lib.ListN.{get_or-eq_default}
 use borrow.Author.Rules.{rules}
@@ -9,7 +9,7 @@ shared-slice-read-result : tie.Need-shared-slice-read-result
 shared-slice-read-result c = search rules
 
 returns : tie.Need-returns
-returns c = inside-any c.before.before.args.text.now _ 0 10 c.before.if1.true
+returns c = inside_any c.before.before.args.text.now _ 0 10 c.before.if1.true
 
 returns-2 : tie.Need-returns-2
 returns-2 c = sym (get_or-eq_default c.before.args.text.now 10 c.if1.false)

@@ -3,13 +3,13 @@ use native.Mathlib.Omega.{arith}
 use mathlib.Core.Path.{◌≡◌, refl}
 use lib.ListN.{length, drop}
 use borrow.Author.Rules.{rules}
-use Rattle.draft.specs.Words.{isInLine, run}
-use Rattle.draft.specs.Laws.Runs.{scan-inside, scan-more, scan-over}
+use Rattle.draft.specs.Words.{is_in_line, run}
+use Rattle.draft.specs.Laws.Runs.{scan_inside, scan_more, scan_over}
 use Rattle.draft.proofs.text.line_end.Statement.{statement}
 use Rattle.draft.proofs.text.line_end.Tie as tie
 
 abbrev invariant-loop : tie.invariant-loop
-invariant-loop text at i₀ i = i + run isInLine (drop i text) ≡ at + run isInLine (drop at text)
+invariant-loop text at i₀ i = i + run is_in_line (drop i text) ≡ at + run is_in_line (drop at text)
 
 abbrev decreases-loop : tie.decreases-loop
 decreases-loop text at i₀ i = length text - i
@@ -26,22 +26,22 @@ in-line-requires c κs = search rules
 add-i : tie.Need-overflow-add-i invariant-loop decreases-loop
 add-i c =
     let entry = c.before.before.before.before.before in
-    omega (arith, scan-inside isInLine entry.args.text.now c.before.before.before.loop.i _ _ c.before.before.byte_at.ensures c.before.in-line.ensures refl c.if1.true)
+    omega (arith, scan_inside is_in_line entry.args.text.now c.before.before.before.loop.i _ _ c.before.before.byte_at.ensures c.before.in-line.ensures refl c.if1.true)
 
 loop-less : tie.Need-loop-smaller invariant-loop decreases-loop
 loop-less c =
     let entry = c.before.before.before.before.before in
-    omega (arith, scan-inside isInLine entry.args.text.now c.before.before.before.loop.i _ _ c.before.before.byte_at.ensures c.before.in-line.ensures refl c.if1.true)
+    omega (arith, scan_inside is_in_line entry.args.text.now c.before.before.before.loop.i _ _ c.before.before.byte_at.ensures c.before.in-line.ensures refl c.if1.true)
 
 loop-again : tie.Need-loop-preserved invariant-loop decreases-loop
 loop-again c =
     let entry = c.before.before.before.before.before in
-    scan-more isInLine entry.args.text.now c.before.before.before.loop.i _ _ c.before.before.byte_at.ensures c.before.in-line.ensures entry.args.at refl c.if1.true c.before.before.before.loop.invariant
+    scan_more is_in_line entry.args.text.now c.before.before.before.loop.i _ _ c.before.before.byte_at.ensures c.before.in-line.ensures entry.args.at refl c.if1.true c.before.before.before.loop.invariant
 
 returns : tie.Need-returns invariant-loop decreases-loop
 returns c =
     let entry = c.before.before.before.before.before in
-    scan-over isInLine entry.args.text.now c.before.before.before.loop.i _ _ c.before.before.byte_at.ensures c.before.in-line.ensures entry.args.at c.if1.false c.before.before.before.loop.invariant
+    scan_over is_in_line entry.args.text.now c.before.before.before.loop.i _ _ c.before.before.byte_at.ensures c.before.in-line.ensures entry.args.at c.if1.false c.before.before.before.loop.invariant
 
 pub line-end-spec : {M : Type 1} → statement M
 line-end-spec =

@@ -1,7 +1,7 @@
 use lib.ListN.{length, drop, get_or}
 use mathlib.Core.Path.{◌≡◌, sym, ◌∙◌, refl}
-use Rattle.draft.specs.Numbers.{numberFrom, number_of}
-use Rattle.draft.specs.Laws.Digits.{number_small, number_step, number-stop, number-over, number-missing, number-begins}
+use Rattle.draft.specs.Numbers.{number_from, number_of}
+use Rattle.draft.specs.Laws.Digits.{number_small, number_step, number_stop, number_over, number_missing, number_begins}
 use Prim.Native.Nat.{◌-◌, ◌≤◌}
 use native.Mathlib.Omega.{arith}
 use borrow.Author.Rules.{rules}
@@ -9,16 +9,16 @@ use Rattle.draft.proofs.text.number_in.Statement.{statement}
 use Rattle.draft.proofs.text.number_in.Tie as tie
 
 abbrev invariant-loop : tie.invariant-loop
-invariant-loop w most v₀ i₀ v i = (v ≤ most) × (numberFrom most v (drop i w) ≡ number_of most w)
+invariant-loop w most v₀ i₀ v i = (v ≤ most) × (number_from most v (drop i w) ≡ number_of most w)
 
 abbrev decreases-loop : tie.decreases-loop
 decreases-loop w most v₀ i₀ v i = length w - i
 
 returns : tie.Need-returns invariant-loop decreases-loop
-returns c = number-missing _ _ c.if1.true
+returns c = number_missing _ _ c.if1.true
 
 loop-holds : tie.Need-loop-init invariant-loop decreases-loop
-loop-holds c = (omega arith, number-begins _ _ c.if1.false)
+loop-holds c = (omega arith, number_begins _ _ c.if1.false)
 
 shared-slice-read-longer : tie.Need-shared-slice-read-longer invariant-loop decreases-loop
 shared-slice-read-longer c = search rules
@@ -37,7 +37,7 @@ returns-2 c =
     let longer = c.before.before in
     let loop = longer.before.before.before in
     let entry = loop.before.before.before in
-    sym (number-stop _ _ entry.args.w.now _ _ longer.before.before.loop-test.true refl (sym longer.longer.ensures ∙ c.enum_told.given.1)) ∙ loop.loop.invariant.1
+    sym (number_stop _ _ entry.args.w.now _ _ longer.before.before.loop-test.true refl (sym longer.longer.ensures ∙ c.enum_told.given.1)) ∙ loop.loop.invariant.1
 
 add-i : tie.Need-overflow-add-i invariant-loop decreases-loop
 add-i c = search rules
@@ -57,7 +57,7 @@ loop-again c =
 returns-3 : tie.Need-returns-3 invariant-loop decreases-loop
 returns-3 c =
     let loop = c.before in
-    sym (number-over _ _ _ _ c.loop-test.false loop.loop.invariant.0) ∙ loop.loop.invariant.1
+    sym (number_over _ _ _ _ c.loop-test.false loop.loop.invariant.0) ∙ loop.loop.invariant.1
 
 pub number-in-spec : {M : Type 1} → statement M
 number-in-spec =

@@ -1,7 +1,7 @@
 use lib.ListN.{length, drop}
 use mathlib.Core.Path.{◌≡◌, sym, ◌∙◌, refl}
 use Rattle.draft.specs.Words.{same}
-use Rattle.draft.specs.Laws.Same.{same-lengths, same_step, same-differ, same_over}
+use Rattle.draft.specs.Laws.Same.{same_lengths, same_step, same_differ, same_over}
 use Prim.Native.Nat.{◌-◌, ◌≤◌}
 use native.Mathlib.Omega.{arith}
 use borrow.Author.Rules.{rules}
@@ -15,7 +15,7 @@ abbrev decreases-loop : tie.decreases-loop
 decreases-loop a b i₀ i = length a - i
 
 returns : tie.Need-returns invariant-loop decreases-loop
-returns c = same-lengths _ _ c.if1.true
+returns c = same_lengths _ _ c.if1.true
 
 loop-holds : tie.Need-loop-init invariant-loop decreases-loop
 loop-holds c = (c.if1.false, omega arith, refl)
@@ -30,7 +30,7 @@ returns-2 : tie.Need-returns-2 invariant-loop decreases-loop
 returns-2 c =
     let loop = c.before.before.before.before in
     let entry = loop.before.before in
-    sym (same-differ entry.args.a.now entry.args.b.now _ loop.loop.invariant.0 c.before.before.before.loop-test.true c.if2.true) ∙ loop.loop.invariant.2
+    sym (same_differ entry.args.a.now entry.args.b.now _ loop.loop.invariant.0 c.before.before.before.loop-test.true c.if2.true) ∙ loop.loop.invariant.2
 
 add-i : tie.Need-overflow-add-i invariant-loop decreases-loop
 add-i c = search rules

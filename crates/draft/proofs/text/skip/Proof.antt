@@ -3,13 +3,13 @@ use native.Mathlib.Omega.{arith}
 use mathlib.Core.Path.{◌≡◌, refl}
 use lib.ListN.{length, drop}
 use borrow.Author.Rules.{rules}
-use Rattle.draft.specs.Words.{isWhite, run}
-use Rattle.draft.specs.Laws.Runs.{scan-inside, scan-more, scan-over}
+use Rattle.draft.specs.Words.{is_white, run}
+use Rattle.draft.specs.Laws.Runs.{scan_inside, scan_more, scan_over}
 use Rattle.draft.proofs.text.skip.Statement.{statement}
 use Rattle.draft.proofs.text.skip.Tie as tie
 
 abbrev invariant-loop : tie.invariant-loop
-invariant-loop text at i₀ i = i + run isWhite (drop i text) ≡ at + run isWhite (drop at text)
+invariant-loop text at i₀ i = i + run is_white (drop i text) ≡ at + run is_white (drop at text)
 
 abbrev decreases-loop : tie.decreases-loop
 decreases-loop text at i₀ i = length text - i
@@ -26,22 +26,22 @@ white-requires c κs = search rules
 add-i : tie.Need-overflow-add-i invariant-loop decreases-loop
 add-i c =
     let entry = c.before.before.before.before.before in
-    omega (arith, scan-inside isWhite entry.args.text.now c.before.before.before.loop.i _ _ c.before.before.byte_at.ensures c.before.white.ensures refl c.if1.true)
+    omega (arith, scan_inside is_white entry.args.text.now c.before.before.before.loop.i _ _ c.before.before.byte_at.ensures c.before.white.ensures refl c.if1.true)
 
 loop-less : tie.Need-loop-smaller invariant-loop decreases-loop
 loop-less c =
     let entry = c.before.before.before.before.before in
-    omega (arith, scan-inside isWhite entry.args.text.now c.before.before.before.loop.i _ _ c.before.before.byte_at.ensures c.before.white.ensures refl c.if1.true)
+    omega (arith, scan_inside is_white entry.args.text.now c.before.before.before.loop.i _ _ c.before.before.byte_at.ensures c.before.white.ensures refl c.if1.true)
 
 loop-again : tie.Need-loop-preserved invariant-loop decreases-loop
 loop-again c =
     let entry = c.before.before.before.before.before in
-    scan-more isWhite entry.args.text.now c.before.before.before.loop.i _ _ c.before.before.byte_at.ensures c.before.white.ensures entry.args.at refl c.if1.true c.before.before.before.loop.invariant
+    scan_more is_white entry.args.text.now c.before.before.before.loop.i _ _ c.before.before.byte_at.ensures c.before.white.ensures entry.args.at refl c.if1.true c.before.before.before.loop.invariant
 
 returns : tie.Need-returns invariant-loop decreases-loop
 returns c =
     let entry = c.before.before.before.before.before in
-    scan-over isWhite entry.args.text.now c.before.before.before.loop.i _ _ c.before.before.byte_at.ensures c.before.white.ensures entry.args.at c.if1.false c.before.before.before.loop.invariant
+    scan_over is_white entry.args.text.now c.before.before.before.loop.i _ _ c.before.before.byte_at.ensures c.before.white.ensures entry.args.at c.if1.false c.before.before.before.loop.invariant
 
 pub skip-spec : {M : Type 1} → statement M
 skip-spec =

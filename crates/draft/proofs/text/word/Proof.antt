@@ -1,4 +1,4 @@
-use Rattle.draft.specs.Laws.Lexing.{word-inside, word-is, no_text}
+use Rattle.draft.specs.Laws.Lexing.{word_inside, word_is, no_text}
 use borrow.Author.Rules.{rules}
 use Rattle.draft.proofs.text.word.Statement.{statement}
 use Rattle.draft.proofs.text.word.Tie as tie
@@ -31,14 +31,14 @@ part-result-end-2 : tie.Need-slice-bounds-result-end-2
 part-result-end-2 c =
     let skip = c.before in
     let entry = skip.before.before.before in
-    word-inside entry.args.text.now entry.args.at _ _ skip.skip.ensures c.word-end.ensures skip.before.if1.false
+    word_inside entry.args.text.now entry.args.at _ _ skip.skip.ensures c.word-end.ensures skip.before.if1.false
 
 returns-2 : tie.Need-returns-2
 returns-2 c =
     let end = c.before in
     let skip = end.before in
     let entry = skip.before.before.before in
-    word-is entry.args.text.now entry.args.at _ _ skip.skip.ensures end.word-end.ensures
+    word_is entry.args.text.now entry.args.at _ _ skip.skip.ensures end.word-end.ensures
 
 pub word-spec : {M : Type 1} → statement M
 word-spec =

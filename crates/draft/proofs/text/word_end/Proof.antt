@@ -3,13 +3,13 @@ use native.Mathlib.Omega.{arith}
 use mathlib.Core.Path.{◌≡◌, refl}
 use lib.ListN.{length, drop}
 use borrow.Author.Rules.{rules}
-use Rattle.draft.specs.Words.{isWordly, run}
-use Rattle.draft.specs.Laws.Runs.{scan-inside, scan-more, scan-over}
+use Rattle.draft.specs.Words.{is_wordly, run}
+use Rattle.draft.specs.Laws.Runs.{scan_inside, scan_more, scan_over}
 use Rattle.draft.proofs.text.word_end.Statement.{statement}
 use Rattle.draft.proofs.text.word_end.Tie as tie
 
 abbrev invariant-loop : tie.invariant-loop
-invariant-loop text at i₀ i = i + run isWordly (drop i text) ≡ at + run isWordly (drop at text)
+invariant-loop text at i₀ i = i + run is_wordly (drop i text) ≡ at + run is_wordly (drop at text)
 
 abbrev decreases-loop : tie.decreases-loop
 decreases-loop text at i₀ i = length text - i
@@ -26,22 +26,22 @@ wordly-requires c κs = search rules
 add-i : tie.Need-overflow-add-i invariant-loop decreases-loop
 add-i c =
     let entry = c.before.before.before.before.before in
-    omega (arith, scan-inside isWordly entry.args.text.now c.before.before.before.loop.i _ _ c.before.before.byte_at.ensures c.before.wordly.ensures refl c.if1.true)
+    omega (arith, scan_inside is_wordly entry.args.text.now c.before.before.before.loop.i _ _ c.before.before.byte_at.ensures c.before.wordly.ensures refl c.if1.true)
 
 loop-less : tie.Need-loop-smaller invariant-loop decreases-loop
 loop-less c =
     let entry = c.before.before.before.before.before in
-    omega (arith, scan-inside isWordly entry.args.text.now c.before.before.before.loop.i _ _ c.before.before.byte_at.ensures c.before.wordly.ensures refl c.if1.true)
+    omega (arith, scan_inside is_wordly entry.args.text.now c.before.before.before.loop.i _ _ c.before.before.byte_at.ensures c.before.wordly.ensures refl c.if1.true)
 
 loop-again : tie.Need-loop-preserved invariant-loop decreases-loop
 loop-again c =
     let entry = c.before.before.before.before.before in
-    scan-more isWordly entry.args.text.now c.before.before.before.loop.i _ _ c.before.before.byte_at.ensures c.before.wordly.ensures entry.args.at refl c.if1.true c.before.before.before.loop.invariant
+    scan_more is_wordly entry.args.text.now c.before.before.before.loop.i _ _ c.before.before.byte_at.ensures c.before.wordly.ensures entry.args.at refl c.if1.true c.before.before.before.loop.invariant
 
 returns : tie.Need-returns invariant-loop decreases-loop
 returns c =
     let entry = c.before.before.before.before.before in
-    scan-over isWordly entry.args.text.now c.before.before.before.loop.i _ _ c.before.before.byte_at.ensures c.before.wordly.ensures entry.args.at c.if1.false c.before.before.before.loop.invariant
+    scan_over is_wordly entry.args.text.now c.before.before.before.loop.i _ _ c.before.before.byte_at.ensures c.before.wordly.ensures entry.args.at c.if1.false c.before.before.before.loop.invariant
 
 pub word-end-spec : {M : Type 1} → statement M
 word-end-spec =

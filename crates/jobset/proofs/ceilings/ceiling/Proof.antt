@@ -3,13 +3,13 @@ use native.Mathlib.Omega.{arith}
 use mathlib.Core.Path.{◌≡◌, refl}
 use borrow.Author.Rules.{rules}
 use Rattle.kernel.specs.Jobs.{largest}
-use Rattle.kernel.specs.Laws.Largest.{largest-more, largest-all}
-use Rattle.jobset.proofs.Locks.{userBaseBy, user-by, ceiling-by}
+use Rattle.kernel.specs.Laws.Largest.{largest_more, largest_all}
+use Rattle.jobset.proofs.Locks.{user_base_by, user_by, ceiling_by}
 use Rattle.jobset.proofs.ceilings.ceiling.Statement.{statement}
 use Rattle.jobset.proofs.ceilings.ceiling.Tie as tie
 
 abbrev invariant-loop : tie.invariant-loop
-invariant-loop lock held firsts counts bases jobs most₀ i₀ most i = (i ≤ jobs) × (most < 256) × (most ≡ largest (userBaseBy held firsts counts bases lock) i)
+invariant-loop lock held firsts counts bases jobs most₀ i₀ most i = (i ≤ jobs) × (most < 256) × (most ≡ largest (user_base_by held firsts counts bases lock) i)
 
 abbrev decreases-loop : tie.decreases-loop
 decreases-loop lock held firsts counts bases jobs most₀ i₀ most i = jobs - i
@@ -65,8 +65,8 @@ loop-again c =
     let t = entry.args.table in (
       omega (arith, turn.loop-test.true),
       omega (arith, c.larger.ensures, user.user-base.type-inv, turn.before.loop.invariant.1),
-      largest-more _ _ _ _ _ turn.before.loop.invariant.2
-          (user-by t.held t.first t.count t.base entry.args.lock turn.before.loop.i _ _ _ _
+      largest_more _ _ _ _ _ turn.before.loop.invariant.2
+          (user_by t.held t.first t.count t.base entry.args.lock turn.before.loop.i _ _ _ _
           first.number_at.ensures count.byte_at.ensures base.byte-at2.ensures user.user-base.ensures)
           c.larger.ensures,
     )
@@ -75,7 +75,7 @@ add-result : tie.Need-overflow-add-result invariant-loop decreases-loop
 add-result c = search rules
 
 returns : tie.Need-returns invariant-loop decreases-loop
-returns c = ceiling-by _ _ _ (largest-all _ _ _ _ c.before.loop.invariant.0 c.loop-test.false c.before.loop.invariant.2)
+returns c = ceiling_by _ _ _ (largest_all _ _ _ _ c.before.loop.invariant.0 c.loop-test.false c.before.loop.invariant.2)
 
 pub ceiling-spec : {M : Type 1} → statement M
 ceiling-spec =

@@ -1,10 +1,10 @@
 use borrow.Author.Rules.{rules}
-use Rattle.jobset.proofs.Locks.{holds-none}
+use Rattle.jobset.proofs.Locks.{holds_none}
 use Rattle.jobset.proofs.ceilings.holds.Statement.{statement}
 use Rattle.jobset.proofs.ceilings.holds.Tie as tie
 
 returns : tie.Need-returns
-returns c = holds-none _ _ c.before.ranges.held.fits c.if1.true
+returns c = holds_none _ _ c.before.ranges.held.fits c.if1.true
 
 cast-result : tie.Need-overflow-cast-result
 cast-result c = search rules

@@ -1,5 +1,5 @@
 use borrow.Author.Rules.{rules}
-use Rattle.kernel.specs.Words.{setOf, first_of}
+use Rattle.kernel.specs.Words.{set_of, first_of}
 use Rattle.kernel.specs.Jobs.{clipped}
 use Rattle.kernel.proofs.jobs.first.Statement.{statement}
 use Rattle.kernel.proofs.jobs.first.Tie as tie
@@ -8,7 +8,7 @@ job-word-requires : tie.Need-job-word-requires
 job-word-requires c κs = search rules
 
 returns : tie.Need-returns
-unfolding setOf first_of clipped
+unfolding set_of first_of clipped
 returns c = c.job-word.ensures
 
 pub first_spec : {M : Type 1} → statement M

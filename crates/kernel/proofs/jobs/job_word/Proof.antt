@@ -1,6 +1,6 @@
 use borrow.Author.Tests.{lt-ltb, le-ltb}
 use borrow.Author.Rules.{rules}
-use Rattle.kernel.specs.Words.{setOf}
+use Rattle.kernel.specs.Words.{set_of}
 use Rattle.kernel.specs.Jobs.{clipped}
 use Rattle.kernel.proofs.jobs.job_word.Statement.{statement}
 use Rattle.kernel.proofs.jobs.job_word.Tie as tie
@@ -24,11 +24,11 @@ word-at-requires-2 : tie.Need-word-at-requires-2
 word-at-requires-2 c κs = search rules
 
 returns : tie.Need-returns
-unfolding setOf clipped
+unfolding set_of clipped
 returns c = rw (← c.before.before.before.word_at.ensures, lt-ltb _ _ c.before.before.if1.true) c.word-at2.ensures
 
 returns-2 : tie.Need-returns-2
-unfolding setOf clipped
+unfolding set_of clipped
 returns-2 c = rw (← c.before.word_at.ensures, le-ltb _ _ c.if1.false)
 
 pub job-word-spec : {M : Type 1} → statement M

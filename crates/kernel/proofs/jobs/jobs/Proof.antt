@@ -1,5 +1,5 @@
 use borrow.Author.Rules.{rules}
-use Rattle.kernel.specs.Words.{setOf}
+use Rattle.kernel.specs.Words.{set_of}
 use Rattle.kernel.specs.Jobs.{clipped}
 use Rattle.kernel.proofs.jobs.jobs.Statement.{statement}
 use Rattle.kernel.proofs.jobs.jobs.Tie as tie
@@ -11,7 +11,7 @@ cast-result : tie.Need-overflow-cast-result
 cast-result c = search rules
 
 returns : tie.Need-returns
-unfolding setOf clipped
+unfolding set_of clipped
 returns c = c.word_at.ensures
 
 pub jobs-spec : {M : Type 1} → statement M

@@ -1,12 +1,12 @@
 use native.Mathlib.Omega.{arith}
 use mathlib.Core.Path.{sym}
 use borrow.Author.Rules.{rules}
-use Rattle.kernel.specs.Laws.Key.{key-some, key-none}
+use Rattle.kernel.specs.Laws.Key.{key_some, key_none}
 use Rattle.kernel.proofs.keys.key_of.Statement.{statement}
 use Rattle.kernel.proofs.keys.key_of.Tie as tie
 
 returns : tie.Need-returns
-returns c = sym (key-none _ _ c.if1.true)
+returns c = sym (key_none _ _ c.if1.true)
 
 mul-result : tie.Need-overflow-mul-result
 mul-result c = search rules
@@ -24,7 +24,7 @@ cast-result-2 : tie.Need-overflow-cast-result-2
 cast-result-2 c = search rules
 
 returns-2 : tie.Need-returns-2
-returns-2 c = let some = c.if1.false in sym (key-some _ _ (omega arith))
+returns-2 c = let some = c.if1.false in sym (key_some _ _ (omega arith))
 
 pub key-of-spec : {M : Type 1} → statement M
 key-of-spec =

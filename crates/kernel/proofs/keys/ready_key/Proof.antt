@@ -4,11 +4,11 @@ use mathlib.Core.Path.{◌≡◌, sym, ap, ◌∙◌}
 use mathlib.Core.Bool.{Bool, true, false, cond}
 use borrow.Author.Rules.{rules}
 use Rattle.kernel.specs.Rules.{JobSet}
-use Rattle.kernel.specs.Words.{setOf}
-use Rattle.kernel.specs.Code.{weightAt}
+use Rattle.kernel.specs.Words.{set_of}
+use Rattle.kernel.specs.Code.{weight_at}
 use Rattle.kernel.specs.Laws.Small.{SmallAt, small_at}
 use Rattle.kernel.specs.Laws.Tests.{if-lt, if-ge}
-use Rattle.kernel.specs.Laws.Key.{keyOf, key-none}
+use Rattle.kernel.specs.Laws.Key.{key_of, key_none}
 use Rattle.kernel.proofs.keys.ready_key.Reads as reads
 use Rattle.kernel.proofs.keys.ready_key.Lts as lts
 use Rattle.kernel.proofs.jobs.base.Reads as base-reads
@@ -28,7 +28,7 @@ segments-requires : tie.Need-segments-requires
 segments-requires c κs = search rules
 
 returns : tie.Need-returns
-returns c = sym (key-none _ _ (if-ge _ _ _ _ (rw c.before.segments.ensures at c.if1.true)))
+returns c = sym (key_none _ _ (if-ge _ _ _ _ (rw c.before.segments.ensures at c.if1.true)))
 
 abbrev calls : lts.Claims
 calls = (
@@ -48,7 +48,7 @@ module _ (c : lts.Else1 calls reads.Pre reads.Post) where
   entry = c.before.before.before.before
 
   abbrev J : JobSet
-  J = setOf entry.args.set.now
+  J = set_of entry.args.set.now
 
   inside : entry.args.k < J.segments entry.args.i
   inside = rw c.before.segments.ensures at c.if1.false
@@ -57,7 +57,7 @@ module _ (c : lts.Else1 calls reads.Pre reads.Post) where
   small = small_at _ entry.pre _ _ inside
 
   -- then its weight is one or the other
-  chosen : (b : Bool) → entry.args.begun ≡ b → weightAt J entry.args.i entry.args.k entry.args.begun ≡ cond b (2 * J.priority entry.args.i entry.args.k + 2) (2 * J.base entry.args.i + 1)
+  chosen : (b : Bool) → entry.args.begun ≡ b → weight_at J entry.args.i entry.args.k entry.args.begun ≡ cond b (2 * J.priority entry.args.i entry.args.k + 2) (2 * J.base entry.args.i + 1)
   chosen b e = if-lt _ _ _ _ inside ∙ ap (λ (b : Bool). cond b (2 * J.priority entry.args.i entry.args.k + 2) (2 * J.base entry.args.i + 1)) e
 
 mul-key-of : tie.Need-overflow-mul-key-of
@@ -70,7 +70,7 @@ key-of-requires : tie.Need-key-of-requires
 key-of-requires c κs = (omega (arith, (small c.before).priority, c.before.before.before.priority.ensures), (small c.before).job)
 
 returns-2 : tie.Need-returns-2
-returns-2 c = c.key_of.ensures ∙ rw c.before.before.before.before.priority.ensures (ap (λ (w : ℕ). keyOf w (entry c.before.before).args.i) (sym (chosen c.before.before true c.before.if2.true)))
+returns-2 c = c.key_of.ensures ∙ rw c.before.before.before.before.priority.ensures (ap (λ (w : ℕ). key_of w (entry c.before.before).args.i) (sym (chosen c.before.before true c.before.if2.true)))
 
 mul-key-of-2 : tie.Need-overflow-mul-key-of-2
 mul-key-of-2 c = omega (arith, (small c.before).base, c.before.before.before.before.base.ensures, (small c.before).priority, c.before.before.before.priority.ensures)
@@ -82,7 +82,7 @@ key-of-requires-2 : tie.Need-key-of-requires-2
 key-of-requires-2 c κs = (omega (arith, (small c.before).base, c.before.before.before.before.base.ensures, (small c.before).priority, c.before.before.before.priority.ensures), (small c.before).job)
 
 returns-3 : tie.Need-returns-3
-returns-3 c = c.key-of2.ensures ∙ rw c.before.before.before.before.before.base.ensures (ap (λ (w : ℕ). keyOf w (entry c.before.before).args.i) (sym (chosen c.before.before false c.before.if2.false)))
+returns-3 c = c.key-of2.ensures ∙ rw c.before.before.before.before.before.base.ensures (ap (λ (w : ℕ). key_of w (entry c.before.before).args.i) (sym (chosen c.before.before false c.before.if2.false)))
 
 pub ready-key-spec : {M : Type 1} → statement M
 ready-key-spec =

@@ -1,7 +1,7 @@
 use Prim.Native.Nat.{◌*◌}
 use mathlib.Core.Path.{refl}
 use borrow.Author.Rules.{rules}
-use Rattle.kernel.proofs.Arrays.{four-stores}
+use Rattle.kernel.proofs.Arrays.{four_stores}
 use Rattle.kernel.proofs.log.put.Statement.{statement}
 use Rattle.kernel.proofs.log.put.Tie as tie
 
@@ -46,7 +46,7 @@ returns c =
     let s1 = s2.before.before.before.before in
     let entry = s1.before.before.before.before in (
       refl,
-      rw (← s1.before.number.ensures) (four-stores entry.args.log.now s1.store.new.0 s2.store2.new.0 s3.store3.new.0 s4.store4.new.0
+      rw (← s1.before.number.ensures) (four_stores entry.args.log.now s1.store.new.0 s2.store2.new.0 s3.store3.new.0 s4.store4.new.0
           (4 * entry.args.count) _ _ _ _ s1.store.ensures s2.store2.ensures s3.store3.ensures s4.store4.ensures),
     )
 

@@ -1,5 +1,5 @@
 use borrow.Author.Rules.{rules}
-use Rattle.kernel.proofs.Arrays.{store-past}
+use Rattle.kernel.proofs.Arrays.{store_past}
 use Rattle.kernel.proofs.log.store.Statement.{statement}
 use Rattle.kernel.proofs.log.store.Tie as tie
 
@@ -16,7 +16,7 @@ returns : tie.Need-returns
 returns c = search rules
 
 returns-2 : tie.Need-returns-2
-returns-2 c = search store-past
+returns-2 c = search store_past
 
 pub store_spec : {M : Type 1} → statement M
 store_spec = tie.close (tie.spec mul-log slice-write-log same_length returns returns-2)

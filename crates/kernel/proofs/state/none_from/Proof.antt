@@ -2,13 +2,13 @@ use Prim.Native.Nat.{ℕ, ◌-◌, ◌≤◌, ◌<◌}
 use native.Mathlib.Omega.{arith}
 use mathlib.Core.Path.{◌≡◌, sym, ap, ◌∙◌}
 use borrow.Author.Rules.{rules}
-use Rattle.kernel.specs.Words.{setOf}
+use Rattle.kernel.specs.Words.{set_of}
 use Rattle.kernel.specs.Laws.Tests.{split}
 use Rattle.kernel.proofs.state.none_from.Statement.{statement}
 use Rattle.kernel.proofs.state.none_from.Tie as tie
 
 abbrev invariant-loop : tie.invariant-loop
-invariant-loop set m n i₀ i = (m ≤ i) × ((j : ℕ) → m ≤ j → j < i → (setOf set).segments j ≡ 0)
+invariant-loop set m n i₀ i = (m ≤ i) × ((j : ℕ) → m ≤ j → j < i → (set_of set).segments j ≡ 0)
 
 abbrev decreases-loop : tie.decreases-loop
 decreases-loop set m n i₀ i = n - i
@@ -42,7 +42,7 @@ loop-again c =
     let i = c.before.before.before.loop.i in (
       omega (arith, inv.0),
       λ j a b. split j i (λ h. inv.1 j a h)
-          (λ h. let same : j ≡ i = omega arith in ap (setOf _).segments same ∙ (sym c.before.segments.ensures ∙ omega (arith, c.if1.false))),
+          (λ h. let same : j ≡ i = omega arith in ap (set_of _).segments same ∙ (sym c.before.segments.ensures ∙ omega (arith, c.if1.false))),
     )
 
 returns-2 : tie.Need-returns-2 invariant-loop decreases-loop

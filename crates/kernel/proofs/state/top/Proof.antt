@@ -5,7 +5,7 @@ use mathlib.Core.Logic.{⊎_elim}
 use lib.ListN.{get_or}
 use borrow.Author.Rules.{rules}
 use Rattle.kernel.specs.Jobs.{largest}
-use Rattle.kernel.specs.Laws.Largest.{largest-more, largest-none, largest-all}
+use Rattle.kernel.specs.Laws.Largest.{largest_more, largest_none, largest_all}
 use Rattle.kernel.proofs.state.top.Statement.{statement}
 use Rattle.kernel.proofs.state.top.Tie as tie
 
@@ -16,7 +16,7 @@ abbrev decreases-loop : tie.decreases-loop
 decreases-loop key best₀ i₀ best i = 32 - i
 
 loop-holds : tie.Need-loop-init invariant-loop decreases-loop
-loop-holds c = (omega arith, largest-none _)
+loop-holds c = (omega arith, largest_none _)
 
 mul-k : tie.Need-overflow-mul-k invariant-loop decreases-loop
 mul-k c = search rules
@@ -35,15 +35,15 @@ loop-again c =
     let inv = c.before.before.before.loop.invariant in (
       omega (arith, c.before.before.loop-test.true),
       ⊎_elim
-          (λ w. largest-more _ _ _ _ _ inv.1 refl (omega (arith, w.1, w.0.taken)))
-          (λ w. largest-more _ _ _ _ _ inv.1 refl (omega (arith, w.1, w.0.left)))
+          (λ w. largest_more _ _ _ _ _ inv.1 refl (omega (arith, w.1, w.0.taken)))
+          (λ w. largest_more _ _ _ _ _ inv.1 refl (omega (arith, w.1, w.0.left)))
           c.if1.branch,
     )
 
 returns : tie.Need-returns invariant-loop decreases-loop
 returns c =
     let inv = c.before.loop.invariant in
-    largest-all _ 32 _ _ inv.0 c.loop-test.false inv.1
+    largest_all _ 32 _ _ inv.0 c.loop-test.false inv.1
 
 pub top-spec : {M : Type 1} → statement M
 top-spec =

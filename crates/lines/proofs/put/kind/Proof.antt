@@ -1,6 +1,6 @@
 use borrow.Author.Tests.{ne_eqb}
 use borrow.Author.Rules.{rules}
-use Rattle.lines.specs.Text.{kindWord}
+use Rattle.lines.specs.Text.{kind_word}
 use Rattle.lines.proofs.put.kind.Statement.{statement}
 use Rattle.lines.proofs.put.kind.Tie as tie
 
@@ -38,7 +38,7 @@ same_length : tie.Need-same-length
 same_length c = search rules
 
 returns : tie.Need-returns
-unfolding kindWord
+unfolding kind_word
 returns c =
     let chosen = c.before.before.before.before.before in
     rw (← chosen.before.word_at.ensures, chosen.match.keys1) c.before.before.word.ensures
@@ -47,7 +47,7 @@ same-length-2 : tie.Need-same-length-2
 same-length-2 c = search rules
 
 returns-2 : tie.Need-returns-2
-unfolding kindWord
+unfolding kind_word
 returns-2 c =
     let chosen = c.before.before.before.before.before in
     rw (← chosen.before.word_at.ensures, chosen.match.keys2) c.before.before.word2.ensures
@@ -56,7 +56,7 @@ same-length-3 : tie.Need-same-length-3
 same-length-3 c = search rules
 
 returns-3 : tie.Need-returns-3
-unfolding kindWord
+unfolding kind_word
 returns-3 c =
     let chosen = c.before.before.before.before.before in
     rw (← chosen.before.word_at.ensures, chosen.match.keys3) c.before.before.word3.ensures
@@ -65,7 +65,7 @@ same-length-4 : tie.Need-same-length-4
 same-length-4 c = search rules
 
 returns-4 : tie.Need-returns-4
-unfolding kindWord
+unfolding kind_word
 returns-4 c =
     let chosen = c.before.before.before.before.before in
     rw (← chosen.before.word_at.ensures, chosen.match.keys4) c.before.before.word4.ensures
@@ -74,7 +74,7 @@ same-length-5 : tie.Need-same-length-5
 same-length-5 c = search rules
 
 returns-5 : tie.Need-returns-5
-unfolding kindWord
+unfolding kind_word
 returns-5 c =
     let chosen = c.before.before.before.before in
     let other = chosen.match.rest in

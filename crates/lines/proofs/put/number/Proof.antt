@@ -1,7 +1,7 @@
 use native.Mathlib.Omega.{arith}
 use borrow.Author.Rules.{rules}
-use Rattle.lines.specs.Digits.{decimal-short}
-use Rattle.lines.proofs.Filled.{Filled, filled_none, filled_more, filled-all, all_there, room-left}
+use Rattle.lines.specs.Digits.{decimal_short}
+use Rattle.lines.proofs.Filled.{Filled, filled_none, filled_more, filled_all, all_there, room_left}
 use Rattle.lines.proofs.put.number.Statement.{statement}
 use Rattle.lines.proofs.put.number.Tie as tie
 
@@ -24,7 +24,7 @@ array-write-digits : tie.Need-array-write-digits invariant-loop decreases-loop
 array-write-digits c = search rules
 
 sub-k : tie.Need-overflow-sub-k invariant-loop decreases-loop
-sub-k c = room-left _ _ _ _ c.before.loop.invariant c.loop-test.true
+sub-k c = room_left _ _ _ _ c.before.loop.invariant c.loop-test.true
 
 loop-less : tie.Need-loop-smaller invariant-loop decreases-loop
 loop-less c = search rules
@@ -54,7 +54,7 @@ word-requires : tie.Need-word-requires invariant-loop decreases-loop
 word-requires c κs =
     let after = c.before.before.before in (
       omega arith,
-      rw (filled-all _ _ _ _ after.before.loop.invariant after.loop-test.false) (decimal-short _ after.before.before.before.ranges.n.fits),
+      rw (filled_all _ _ _ _ after.before.loop.invariant after.loop-test.false) (decimal_short _ after.before.before.before.ranges.n.fits),
     )
 
 same_length : tie.Need-same-length invariant-loop decreases-loop
@@ -63,7 +63,7 @@ same_length c = search rules
 returns : tie.Need-returns invariant-loop decreases-loop
 returns c =
     let after = c.before.before.before.before.before.before in
-    rw (filled-all _ _ _ _ after.before.loop.invariant after.loop-test.false) at c.before.before.word.ensures
+    rw (filled_all _ _ _ _ after.before.loop.invariant after.loop-test.false) at c.before.before.word.ensures
 
 pub number-spec : {M : Type 1} → statement M
 number-spec =

@@ -2,7 +2,7 @@ use Prim.Native.Nat.{◌-◌, ◌≤◌}
 use native.Mathlib.Omega.{arith}
 use lib.ListN.{length, take}
 use borrow.Author.Rules.{rules}
-use Rattle.lines.specs.Put.{Put, put-none, put-place, put_byte, put_all, put-length}
+use Rattle.lines.specs.Put.{Put, put_none, put_place, put_byte, put_all, put_length}
 use Rattle.lines.proofs.put.text.Statement.{statement}
 use Rattle.lines.proofs.put.text.Tie as tie
 
@@ -13,7 +13,7 @@ abbrev decreases-loop : tie.decreases-loop
 decreases-loop out₀ at s place₀ i₀ out place i = length s - i
 
 loop-holds : tie.Need-loop-init invariant-loop decreases-loop
-loop-holds c = (omega arith, put-none _ _)
+loop-holds c = (omega arith, put_none _ _)
 
 shared-slice-read-byte : tie.Need-shared-slice-read-byte invariant-loop decreases-loop
 shared-slice-read-byte c = search rules
@@ -21,7 +21,7 @@ shared-slice-read-byte c = search rules
 byte-requires : tie.Need-byte-requires invariant-loop decreases-loop
 byte-requires c κs =
     let turn = c.before.before in
-    omega (arith, put-place _ _ turn.before.loop.invariant.0 turn.before.loop.invariant.1)
+    omega (arith, put_place _ _ turn.before.loop.invariant.0 turn.before.loop.invariant.1)
 
 add-i : tie.Need-overflow-add-i invariant-loop decreases-loop
 add-i c = search rules
@@ -35,7 +35,7 @@ loop-again c =
     (omega arith, put_byte _ _ turn.loop-test.true turn.before.loop.invariant.1 c.before.before.byte.ensures)
 
 same_length : tie.Need-same-length invariant-loop decreases-loop
-same_length c = put-length c.before.loop.invariant.1
+same_length c = put_length c.before.loop.invariant.1
 
 returns : tie.Need-returns invariant-loop decreases-loop
 returns c = put_all _ _ c.loop-test.false c.before.loop.invariant.1

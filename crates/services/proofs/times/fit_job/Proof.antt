@@ -1,16 +1,16 @@
 use mathlib.Core.Path.{◌≡◌}
 use native.Mathlib.Omega.{arith}
-use Rattle.kernel.specs.Words.{setOf}
+use Rattle.kernel.specs.Words.{set_of}
 use Rattle.services.specs.Times.{FitAt}
 use Rattle.kernel.specs.Laws.Tests.{below}
-use Rattle.services.proofs.Fit.{tells-yes, tells-no}
+use Rattle.services.proofs.Fit.{tells_yes, tells_no}
 use Prim.Native.Nat.{ℕ, ◌-◌, ◌≤◌, ◌<◌}
 use borrow.Author.Rules.{rules}
 use Rattle.services.proofs.times.fit_job.Statement.{statement}
 use Rattle.services.proofs.times.fit_job.Tie as tie
 
 abbrev invariant-loop : tie.invariant-loop
-invariant-loop set times i n k₀ k = (k ≤ n) × (n ≡ (setOf set).segments i) × ((j : ℕ) → j < k → FitAt set times i j)
+invariant-loop set times i n k₀ k = (k ≤ n) × (n ≡ (set_of set).segments i) × ((j : ℕ) → j < k → FitAt set times i j)
 
 abbrev decreases-loop : tie.decreases-loop
 decreases-loop set times i n k₀ k = n - k
@@ -30,7 +30,7 @@ shortest-requires c κs = search rules
 returns : tie.Need-returns invariant-loop decreases-loop
 returns c =
     let loop = c.before.before.before.before in
-    tells-no _ (λ F. omega (arith, (F loop.loop.k (omega (arith, loop.loop.invariant.1, c.before.before.before.loop-test.true))).0, c.if1.true, c.before.before.time.ensures, c.before.shortest.ensures))
+    tells_no _ (λ F. omega (arith, (F loop.loop.k (omega (arith, loop.loop.invariant.1, c.before.before.before.loop-test.true))).0, c.if1.true, c.before.before.time.ensures, c.before.shortest.ensures))
 
 longest-requires : tie.Need-longest-requires invariant-loop decreases-loop
 longest-requires c κs = search rules
@@ -38,7 +38,7 @@ longest-requires c κs = search rules
 returns-2 : tie.Need-returns-2 invariant-loop decreases-loop
 returns-2 c =
     let loop = c.before.before.before.before.before.before in
-    tells-no _ (λ F. omega (arith, (F loop.loop.k (omega (arith, loop.loop.invariant.1, c.before.before.before.before.before.loop-test.true))).1, c.if2.true, c.before.before.before.before.time.ensures, c.before.longest.ensures))
+    tells_no _ (λ F. omega (arith, (F loop.loop.k (omega (arith, loop.loop.invariant.1, c.before.before.before.before.before.loop-test.true))).1, c.if2.true, c.before.before.before.before.time.ensures, c.before.longest.ensures))
 
 add-k : tie.Need-overflow-add-k invariant-loop decreases-loop
 add-k c = search rules
@@ -60,7 +60,7 @@ loop-again c =
 returns-3 : tie.Need-returns-3 invariant-loop decreases-loop
 returns-3 c =
     let inv = c.before.loop.invariant in
-    tells-yes _ (λ k h. inv.2 k (omega (arith, c.loop-test.false, inv.1)))
+    tells_yes _ (λ k h. inv.2 k (omega (arith, c.loop-test.false, inv.1)))
 
 pub fit-job-spec : {M : Type 1} → statement M
 fit-job-spec =

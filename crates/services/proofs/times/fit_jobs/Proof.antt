@@ -1,17 +1,17 @@
 use borrow.Author.Tests.{not-true, not-false}
 use mathlib.Core.Path.{◌≡◌}
 use native.Mathlib.Omega.{arith}
-use Rattle.kernel.specs.Words.{setOf}
+use Rattle.kernel.specs.Words.{set_of}
 use Rattle.services.specs.Times.{FitJob}
 use Rattle.kernel.specs.Laws.Tests.{below}
-use Rattle.services.proofs.Fit.{tells-yes, tells-no}
+use Rattle.services.proofs.Fit.{tells_yes, tells_no}
 use Prim.Native.Nat.{ℕ, ◌-◌, ◌≤◌, ◌<◌}
 use borrow.Author.Rules.{rules}
 use Rattle.services.proofs.times.fit_jobs.Statement.{statement}
 use Rattle.services.proofs.times.fit_jobs.Tie as tie
 
 abbrev invariant-loop : tie.invariant-loop
-invariant-loop set times n i₀ i = (i ≤ n) × (n ≡ (setOf set).jobs) × ((j : ℕ) → j < i → FitJob set times j)
+invariant-loop set times n i₀ i = (i ≤ n) × (n ≡ (set_of set).jobs) × ((j : ℕ) → j < i → FitJob set times j)
 
 abbrev decreases-loop : tie.decreases-loop
 decreases-loop set times n i₀ i = n - i
@@ -28,7 +28,7 @@ fit-job-requires c κs = search rules
 returns : tie.Need-returns invariant-loop decreases-loop
 returns c =
     let loop = c.before.before.before in
-    tells-no _ (λ F. c.before.fit-job.ensures.no (not-true _ c.if1.true) (F loop.loop.i (omega (arith, loop.loop.invariant.1, c.before.before.loop-test.true))))
+    tells_no _ (λ F. c.before.fit-job.ensures.no (not-true _ c.if1.true) (F loop.loop.i (omega (arith, loop.loop.invariant.1, c.before.before.loop-test.true))))
 
 add-i : tie.Need-overflow-add-i invariant-loop decreases-loop
 add-i c = search rules
@@ -49,7 +49,7 @@ loop-again c =
 returns-2 : tie.Need-returns-2 invariant-loop decreases-loop
 returns-2 c =
     let inv = c.before.loop.invariant in
-    tells-yes _ (λ i h. inv.2 i (omega (arith, c.loop-test.false, inv.1)))
+    tells_yes _ (λ i h. inv.2 i (omega (arith, c.loop-test.false, inv.1)))
 
 pub fit-jobs-spec : {M : Type 1} → statement M
 fit-jobs-spec =

@@ -2,15 +2,15 @@ use Prim.Native.Nat.{◌+◌}
 use mathlib.Core.Path.{◌≡◌, refl}
 use native.Mathlib.Omega.{arith}
 use Rattle.kernel.specs.Jobs.{sum}
-use Rattle.kernel.specs.Words.{setOf}
-use Rattle.kernel.specs.Laws.Sums.{sum-none, sum_more, sum-all, sum-rises}
+use Rattle.kernel.specs.Words.{set_of}
+use Rattle.kernel.specs.Laws.Sums.{sum_none, sum_more, sum_all, sum_rises}
 use Prim.Native.Nat.{◌-◌, ◌≤◌}
 use borrow.Author.Rules.{rules}
 use Rattle.services.proofs.times.segments.Statement.{statement}
 use Rattle.services.proofs.times.segments.Tie as tie
 
 abbrev invariant-loop : tie.invariant-loop
-invariant-loop set n total₀ i₀ total i = (i ≤ n) × (n ≡ (setOf set).jobs) × (total ≡ sum (setOf set).segments i) × (total ≤ 64)
+invariant-loop set n total₀ i₀ total i = (i ≤ n) × (n ≡ (set_of set).jobs) × (total ≡ sum (set_of set).segments i) × (total ≤ 64)
 
 abbrev decreases-loop : tie.decreases-loop
 decreases-loop set n total₀ i₀ total i = n - i
@@ -19,7 +19,7 @@ jobs-requires : tie.Need-jobs-requires invariant-loop decreases-loop
 jobs-requires c κs = search rules
 
 loop-holds : tie.Need-loop-init invariant-loop decreases-loop
-loop-holds c = (omega arith, c.jobs.ensures, sum-none _, omega arith)
+loop-holds c = (omega arith, c.jobs.ensures, sum_none _, omega arith)
 
 segments-requires : tie.Need-segments-requires invariant-loop decreases-loop
 segments-requires c κs = search rules
@@ -40,15 +40,15 @@ loop-again : tie.Need-loop-preserved invariant-loop decreases-loop
 loop-again c =
     let inv = c.before.before.loop.invariant in
     let pre = c.before.before.before.before.requires in
-    let J = setOf c.before.before.before.before.args.set.now in
+    let J = set_of c.before.before.before.before.args.set.now in
     let i = c.before.before.loop.i in
     let more = sum_more J.segments i _ _ _ inv.2 c.segments.ensures refl in
-    (omega (arith, c.before.loop-test.true), inv.1, more, omega (arith, more, sum-rises J.segments (i + 1) J.jobs (omega (arith, inv.1, c.before.loop-test.true)), pre.few-segments))
+    (omega (arith, c.before.loop-test.true), inv.1, more, omega (arith, more, sum_rises J.segments (i + 1) J.jobs (omega (arith, inv.1, c.before.loop-test.true)), pre.few_segments))
 
 returns : tie.Need-returns invariant-loop decreases-loop
 returns c =
     let inv = c.before.loop.invariant in
-    sum-all _ _ _ _ (omega (arith, inv.0, inv.1)) (omega (arith, c.loop-test.false, inv.1)) inv.2
+    sum_all _ _ _ _ (omega (arith, inv.0, inv.1)) (omega (arith, c.loop-test.false, inv.1)) inv.2
 
 pub segments-spec : {M : Type 1} → statement M
 segments-spec =

@@ -1,6 +1,6 @@
 use native.Mathlib.Omega.{arith}
 use mathlib.Core.Path.{sym}
-use Rattle.services.proofs.Credits.{credit-none, credit-inside, credit-done}
+use Rattle.services.proofs.Credits.{credit_none, credit_inside, credit_done}
 use borrow.Author.Rules.{rules}
 use Rattle.services.proofs.told.credit.Statement.{statement}
 use Rattle.services.proofs.told.credit.Tie as tie
@@ -27,7 +27,7 @@ element-copy-out-add : tie.Need-element-copy-out-add
 element-copy-out-add c =
     let then = c.before.before in
     let start = then.before.before.before in
-    credit-inside _ start.args.ran start.args.tick start.args.times.now _ _ start.requires then.before.before.segments.ensures then.if1.true c.before.first.ensures
+    credit_inside _ start.args.ran start.args.tick start.args.times.now _ _ start.requires then.before.before.segments.ensures then.if1.true c.before.first.ensures
 
 less-requires : tie.Need-less-requires
 less-requires c κs = search rules
@@ -42,16 +42,16 @@ element-write-times : tie.Need-element-write-times
 element-write-times c =
     let then = c.before.before.before.before.before in
     let start = then.before.before.before in
-    credit-inside _ start.args.ran start.args.tick start.args.times.now _ _ start.requires then.before.before.segments.ensures then.if1.true c.before.before.before.before.first.ensures
+    credit_inside _ start.args.ran start.args.tick start.args.times.now _ _ start.requires then.before.before.segments.ensures then.if1.true c.before.before.before.before.first.ensures
 
 returns : tie.Need-returns
 returns c =
     let then = c.before.before.before.before.before in
-    credit-done _ _ _ _ _ _ _ _ then.before.before.segments.ensures then.if1.true c.before.before.before.before.first.ensures c.before.less.ensures c.add.ensures
+    credit_done _ _ _ _ _ _ _ _ then.before.before.segments.ensures then.if1.true c.before.before.before.before.first.ensures c.before.less.ensures c.add.ensures
 
 returns-2 : tie.Need-returns-2
 returns-2 c =
-    sym (credit-none _ _ _ _ (omega (arith, c.if1.false, c.before.before.segments.ensures)))
+    sym (credit_none _ _ _ _ (omega (arith, c.if1.false, c.before.before.segments.ensures)))
 
 pub credit-spec : {M : Type 1} → statement M
 credit-spec =

@@ -1,4 +1,4 @@
-use Rattle.kernel.specs.Words.{setOf}
+use Rattle.kernel.specs.Words.{set_of}
 use Prim.Native.Nat.{max}
 use mathlib.Core.Path.{◌≡◌}
 use native.Mathlib.Omega.{arith}
@@ -15,7 +15,7 @@ larger-requires c κs = search rules
 returns : tie.Need-returns
 returns c =
     let start = c.before.before in
-    let e : c.larger.result ≡ max start.args.tick ((setOf start.args.set.now).release start.args.job) = omega (arith, c.larger.ensures, c.before.release.ensures) in
+    let e : c.larger.result ≡ max start.args.tick ((set_of start.args.set.now).release start.args.job) = omega (arith, c.larger.ensures, c.before.release.ensures) in
     λ z. record { job = start.args.job; segment = start.args.segment; since = e z }
 
 pub next-spec : {M : Type 1} → statement M

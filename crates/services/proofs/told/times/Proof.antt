@@ -1,4 +1,4 @@
-use Rattle.services.proofs.Entries.{Reads, reads_none, reads-next, reads_all}
+use Rattle.services.proofs.Entries.{Reads, reads_none, reads_next, reads_all}
 use mathlib.Core.Path.{◌≡◌, refl}
 use lib.ListN.{length}
 use Prim.Native.Nat.{◌-◌, ◌/◌}
@@ -66,7 +66,7 @@ loop-again c =
     let loop = word.before.before in
     let start = loop.before.before.before in (
       loop.loop.invariant.0,
-      reads-next _ _ _ _ _ _ _ _ _ _ start.requires.0 (omega (arith, word.before.loop-test.true, loop.loop.invariant.0)) loop.loop.invariant.1
+      reads_next _ _ _ _ _ _ _ _ _ _ start.requires.0 (omega (arith, word.before.loop-test.true, loop.loop.invariant.0)) loop.loop.invariant.1
           word.word_at.ensures c.before.before.word-at2.ensures c.before.word-at3.ensures c.before.before.before.credit.ensures c.next.ensures,
     )
 

@@ -2,7 +2,7 @@ use mathlib.Core.Path.{◌∙◌, sym, refl}
 use borrow.Author.Rules.{rules}
 use borrow.Author.Tests.{not-true, not-false}
 use Rattle.table.specs.Refusal.{answer}
-use Rattle.table.proofs.Verdict.{drawn, one, two, three, four-none, four, none}
+use Rattle.table.proofs.Verdict.{drawn, one, two, three, four_none, four, none}
 use Rattle.table.proofs.Outcome.judged.Statement.{statement}
 use Rattle.table.proofs.Outcome.judged.Tie as tie
 
@@ -61,7 +61,7 @@ returns-4 c =
     let a = s.before.before.args in
     let whole = sym s.before.may-end.ensures ∙ not-false _ s.if1.false in
     λ rs e f. drawn rs a.place a.end a.table a.scan e f 4 a.end c.refused4.result
-    (four-none rs a.place a.end a.table a.scan e f whole c.before.before.before.before.before.enum_told.given.1 c.before.before.before.enum-told2.given.1 c.before.if2.true)
+    (four_none rs a.place a.end a.table a.scan e f whole c.before.before.before.before.before.enum_told.given.1 c.before.before.before.enum-told2.given.1 c.before.if2.true)
     (c.refused4.ensures a.table)
 
 enum-known-beyond : tie.Need-enum-known-beyond

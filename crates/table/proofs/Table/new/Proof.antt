@@ -1,10 +1,10 @@
 use mathlib.Core.Path.{refl}
-use Rattle.table.specs.Table.{recorded, tableFrom, jobsFrom, segmentsOf, frame_of, padded}
+use Rattle.table.specs.Table.{recorded, table_from, jobs_from, segments_of, frame_of, padded}
 use Rattle.table.proofs.Table.new.Statement.{statement}
 use Rattle.table.proofs.Table.new.Tie as tie
 
 returns : tie.Need-returns
-unfolding recorded tableFrom jobsFrom segmentsOf frame_of padded
+unfolding recorded table_from jobs_from segments_of frame_of padded
 returns c =
     refl
 

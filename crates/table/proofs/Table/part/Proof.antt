@@ -1,7 +1,7 @@
 use native.Mathlib.Omega.{arith}
 use mathlib.Core.Path.{ap}
 use Rattle.table.specs.declared.Extent.{Extent}
-use Rattle.table.proofs.Parts.{there-fits, at-job}
+use Rattle.table.proofs.Parts.{there_fits, at_job}
 use borrow.Author.Rules.{rules}
 use Rattle.table.proofs.Table.part.Statement.{statement}
 use Rattle.table.proofs.Table.part.Tie as tie
@@ -14,7 +14,7 @@ add-end c =
     let start = c.before.before.before in
     let e = ap (λ (x : Extent). x.start) c.before.extent.ensures in
     let d = ap (λ (x : Extent). x.length) c.before.extent.ensures in
-    omega (arith, e, d, there-fits start.args.bytes.now start.args.job, start.well-formed)
+    omega (arith, e, d, there_fits start.args.bytes.now start.args.job, start.well-formed)
 
 sub-result : tie.Need-overflow-sub-result
 sub-result c = search rules
@@ -27,13 +27,13 @@ part-result-end c =
     let start = c.before.before.before in
     let e = ap (λ (x : Extent). x.start) c.before.extent.ensures in
     let d = ap (λ (x : Extent). x.length) c.before.extent.ensures in
-    omega (arith, e, d, there-fits start.args.bytes.now start.args.job)
+    omega (arith, e, d, there_fits start.args.bytes.now start.args.job)
 
 returns : tie.Need-returns
 returns c =
     let start = c.before.before.before.before in
     let e = c.before.before.extent.ensures in
-    at-job start.args.bytes _ _ start.args.job _ (ap (λ (x : Extent). x.start) e) (ap (λ (x : Extent). x.length) e)
+    at_job start.args.bytes _ _ start.args.job _ (ap (λ (x : Extent). x.start) e) (ap (λ (x : Extent). x.length) e)
 
 pub part-spec : {M : Type 1} → statement M
 part-spec =

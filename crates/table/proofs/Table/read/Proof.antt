@@ -3,9 +3,9 @@ use native.Mathlib.Omega.{arith}
 use mathlib.Core.Path.{◌≡◌, ◌∙◌, sym, ap}
 use lib.ListN.{length}
 use borrow.Author.Rules.{rules}
-use Rattle.table.specs.Steps.{answerTo, endedAt}
-use Rattle.table.proofs.Walk.{Went, start, step, finish, stop, small, size-le, size-pos, told}
-use Rattle.table.proofs.Verdict.{too_long, not-long, not-whole}
+use Rattle.table.specs.Steps.{answer_to, ended_at}
+use Rattle.table.proofs.Walk.{Went, start, step, finish, stop, small, size_le, size_pos, told}
+use Rattle.table.proofs.Verdict.{too_long, not_long, not_whole}
 use Rattle.table.proofs.Table.read.Statement.{statement}
 use Rattle.table.proofs.Table.read.Tie as tie
 
@@ -56,7 +56,7 @@ returns-2 c =
     let read = c.before.before.before in
     let loop = read.before.before.before in
     let entry = loop.before.before.before in
-    c.refused2.ensures _ ∙ not-whole _ _ entry.if1.false
+    c.refused2.ensures _ ∙ not_whole _ _ entry.if1.false
     (stop _ loop.loop.invariant read.before.before.loop-test.true
     (told entry.before.before.args.bytes.now loop.loop.at _ _ _ read.read.ensures c.before.enum_told.given.1))
 
@@ -81,12 +81,12 @@ add_at : tie.Need-overflow-add-at invariant-loop decreases-loop
 add_at c =
     let rec = c.before.before.before.before.before.before in
     let loop = rec.before.before.before.before.before in
-    omega (arith, size-le rec.rec.given.0.0, c.size.ensures, loop.before.before.before.if1.false, rec.before.before.before.before.loop-test.true)
+    omega (arith, size_le rec.rec.given.0.0, c.size.ensures, loop.before.before.before.if1.false, rec.before.before.before.before.loop-test.true)
 
 loop-less : tie.Need-loop-smaller invariant-loop decreases-loop
 loop-less c =
     let rec = c.before.before.before.before.before.before in
-    omega (arith, size-pos rec.rec.given.0.0, c.size.ensures, rec.before.before.before.before.loop-test.true)
+    omega (arith, size_pos rec.rec.given.0.0, c.size.ensures, rec.before.before.before.before.loop-test.true)
 
 loop-again : tie.Need-loop-preserved invariant-loop decreases-loop
 loop-again c =
@@ -105,8 +105,8 @@ returns-3 c =
     let at = c.before.before.loop.at in
     let s = c.before.before.before.before.before.before.before.args.bytes.now in
     let end : at ≡ length s = omega (arith, w.inside, c.before.loop-test.false) in
-    c.judged.ensures w.done w.table w.scan ∙ ap (λ (n : ℕ). answerTo n (endedAt w.done c.before.before.loop.place at)) end
-    ∙ ap (answerTo (length s)) (sym (finish w c.before.loop-test.false)) ∙ not-long _ c.before.before.before.before.before.if1.false
+    c.judged.ensures w.done w.table w.scan ∙ ap (λ (n : ℕ). answer_to n (ended_at w.done c.before.before.loop.place at)) end
+    ∙ ap (answer_to (length s)) (sym (finish w c.before.loop-test.false)) ∙ not_long _ c.before.before.before.before.before.if1.false
 
 pub read_spec : {M : Type 1} → statement M
 read_spec =

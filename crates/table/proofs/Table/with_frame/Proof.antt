@@ -1,10 +1,10 @@
 use mathlib.Core.Path.{refl}
-use Rattle.table.specs.Steps.{withFrame}
+use Rattle.table.specs.Steps.{with_frame}
 use Rattle.table.proofs.Table.with_frame.Statement.{statement}
 use Rattle.table.proofs.Table.with_frame.Tie as tie
 
 returns : tie.Need-returns
-unfolding withFrame
+unfolding with_frame
 returns c =
     refl
 

@@ -1,6 +1,6 @@
 use borrow.Author.Tests.{lt-ltb, le-ltb}
 use borrow.Author.Rules.{rules}
-use Rattle.table.specs.Steps.{withJob}
+use Rattle.table.specs.Steps.{with_job}
 use Rattle.table.proofs.Table.with_job.Statement.{statement}
 use Rattle.table.proofs.Table.with_job.Tie as tie
 
@@ -32,12 +32,12 @@ element-write-self-5 : tie.Need-element-write-self-5
 element-write-self-5 c = search rules
 
 returns : tie.Need-returns
-unfolding withJob
+unfolding with_job
 returns c =
     simp (lt-ltb _ _ c.if1.true)
 
 returns-2 : tie.Need-returns-2
-unfolding withJob
+unfolding with_job
 returns-2 c =
     simp (le-ltb _ _ c.if1.false)
 

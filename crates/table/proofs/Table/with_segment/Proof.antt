@@ -1,6 +1,6 @@
 use borrow.Author.Tests.{lt-ltb, le-ltb}
 use borrow.Author.Rules.{rules}
-use Rattle.table.specs.Steps.{withSegment}
+use Rattle.table.specs.Steps.{with_segment}
 use Rattle.table.proofs.Table.with_segment.Statement.{statement}
 use Rattle.table.proofs.Table.with_segment.Tie as tie
 
@@ -26,12 +26,12 @@ element-write-self-3 : tie.Need-element-write-self-3
 element-write-self-3 c = search rules
 
 returns : tie.Need-returns
-unfolding withSegment
+unfolding with_segment
 returns c =
     simp (lt-ltb _ _ c.if1.true)
 
 returns-2 : tie.Need-returns-2
-unfolding withSegment
+unfolding with_segment
 returns-2 c =
     simp (le-ltb _ _ c.if1.false)
 

@@ -3,14 +3,14 @@ use native.Mathlib.Omega.{arith}
 use mathlib.Core.Path.{◌≡◌}
 use lib.ListN.{get_or}
 use borrow.Author.Rules.{rules}
-use Rattle.kernel.specs.Words.{setOf}
+use Rattle.kernel.specs.Words.{set_of}
 use Rattle.kernel.specs.Laws.Tests.{below}
-use Rattle.walk.specs.Laws.Keyed.{NoneAbove, aboves-none, aboves-some}
+use Rattle.walk.specs.Laws.Keyed.{NoneAbove, aboves_none, aboves_some}
 use Rattle.walk.proofs.choice.above.Statement.{statement}
 use Rattle.walk.proofs.choice.above.Tie as tie
 
 abbrev invariant-loop : tie.invariant-loop
-invariant-loop set state out w e n i₀ i = (n ≡ (setOf set).jobs) × (out ≤ i) × NoneAbove state out w i
+invariant-loop set state out w e n i₀ i = (n ≡ (set_of set).jobs) × (out ≤ i) × NoneAbove state out w i
 
 abbrev decreases-loop : tie.decreases-loop
 decreases-loop set state out w e n i₀ i = n - i
@@ -30,7 +30,7 @@ returns c =
     let at = c.before.before.before in
     let entry = at.before.before in
     let inv = at.loop.invariant in
-    aboves-none entry.args.set.now entry.args.state.now entry.requires _ _ _ at.loop.i inv.2 (λ h. omega (arith, c.if1.true, c.before.release.ensures))
+    aboves_none entry.args.set.now entry.args.state.now entry.requires _ _ _ at.loop.i inv.2 (λ h. omega (arith, c.if1.true, c.before.release.ensures))
 
 mul-if2 : tie.Need-overflow-mul-if2 invariant-loop decreases-loop
 mul-if2 c = search rules
@@ -48,7 +48,7 @@ returns-2 c =
     let entry = at.before.before in
     let inv = at.loop.invariant in
     rw test.before.release.ensures
-    (aboves-some entry.args.set.now entry.args.state.now entry.requires _ _ _ at.loop.i inv.2 (omega (arith, inv.0, test.before.before.loop-test.true)) inv.1
+    (aboves_some entry.args.set.now entry.args.state.now entry.requires _ _ _ at.loop.i inv.2 (omega (arith, inv.0, test.before.before.loop-test.true)) inv.1
     (omega (arith, test.if1.false, test.before.release.ensures)) c.if2.true)
 
 add-i : tie.Need-overflow-add-i invariant-loop decreases-loop
@@ -74,7 +74,7 @@ returns-3 c =
     let at = c.before in
     let entry = at.before.before in
     let inv = at.loop.invariant in
-    aboves-none entry.args.set.now entry.args.state.now entry.requires _ _ _ at.loop.i inv.2 (λ h. absurd (omega (arith, inv.0, c.loop-test.false)))
+    aboves_none entry.args.set.now entry.args.state.now entry.requires _ _ _ at.loop.i inv.2 (λ h. absurd (omega (arith, inv.0, c.loop-test.false)))
 
 pub above-spec : {M : Type 1} → statement M
 above-spec =

@@ -1,6 +1,6 @@
 use native.Mathlib.Omega.{arith}
 use borrow.Author.Rules.{rules}
-use Rattle.walk.specs.Laws.Keyed.{follows, follows-none}
+use Rattle.walk.specs.Laws.Keyed.{follows, follows_none}
 use Rattle.walk.proofs.choice.after.Statement.{statement}
 use Rattle.walk.proofs.choice.after.Tie as tie
 
@@ -10,12 +10,12 @@ jobs-requires c κs = search rules
 cast-result : tie.Need-overflow-cast-result
 cast-result c =
     let first = c.before.before.requires.first.before in
-    omega (arith, first.inside, first.loaded.few-jobs)
+    omega (arith, first.inside, first.loaded.few_jobs)
 
 returns : tie.Need-returns
 returns c =
     let entry = c.before.before in
-    follows-none entry.args.set.now entry.args.state.now entry.requires.first.before.loaded _ _ entry.requires.first (rw c.before.jobs.ensures at c.if1.true)
+    follows_none entry.args.set.now entry.args.state.now entry.requires.first.before.loaded _ _ entry.requires.first (rw c.before.jobs.ensures at c.if1.true)
 
 reached-requires : tie.Need-reached-requires
 reached-requires c κs = search rules

@@ -4,13 +4,13 @@ use mathlib.Core.Path.{◌≡◌}
 use lib.ListN.{get_or}
 use borrow.Author.Rules.{rules}
 use Rattle.kernel.specs.Laws.Tests.{below}
-use Rattle.kernel.specs.Words.{setOf}
+use Rattle.kernel.specs.Words.{set_of}
 use Rattle.walk.specs.Choice.{NoKeys}
 use Rattle.walk.proofs.choice.first_unfinished.Statement.{statement}
 use Rattle.walk.proofs.choice.first_unfinished.Tie as tie
 
 abbrev invariant-loop : tie.invariant-loop
-invariant-loop set state done n i₀ i = (i ≤ n) × (n ≡ (setOf set).jobs) × NoKeys state i
+invariant-loop set state done n i₀ i = (i ≤ n) × (n ≡ (set_of set).jobs) × NoKeys state i
 
 abbrev decreases-loop : tie.decreases-loop
 decreases-loop set state done n i₀ i = n - i

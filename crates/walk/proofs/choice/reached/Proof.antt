@@ -1,10 +1,10 @@
 use borrow.Author.Rules.{rules}
-use Rattle.walk.specs.Laws.Keyed.{out_first, reaches-now, reaches-later}
+use Rattle.walk.specs.Laws.Keyed.{out_first, reaches_now, reaches_later}
 use Rattle.walk.proofs.choice.reached.Statement.{statement}
 use Rattle.walk.proofs.choice.reached.Tie as tie
 
 returns : tie.Need-returns
-returns c = reaches-now c.before.requires.inside c.if1.true
+returns c = reaches_now c.before.requires.inside c.if1.true
 
 release-requires : tie.Need-release-requires
 release-requires c κs = search rules
@@ -17,7 +17,7 @@ released-requires c κs =
 returns-2 : tie.Need-returns-2
 returns-2 c =
     let release = c.before in
-    reaches-later release.before.before.requires.job release.before.if1.false (rw release.release.ensures at c.released.ensures)
+    reaches_later release.before.before.requires.job release.before.if1.false (rw release.release.ensures at c.released.ensures)
 
 pub reached-spec : {M : Type 1} → statement M
 reached-spec = tie.close (tie.spec returns release-requires released-requires returns-2)

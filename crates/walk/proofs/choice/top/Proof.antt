@@ -4,7 +4,7 @@ use mathlib.Core.Path.{◌≡◌, refl}
 use lib.ListN.{get_or}
 use borrow.Author.Rules.{rules}
 use Rattle.kernel.specs.Jobs.{largest}
-use Rattle.kernel.specs.Laws.Largest.{largest-le, largest-more, largest-all}
+use Rattle.kernel.specs.Laws.Largest.{largest_le, largest_more, largest_all}
 use Rattle.walk.proofs.choice.top.Statement.{statement}
 use Rattle.walk.proofs.choice.top.Tie as tie
 
@@ -17,7 +17,7 @@ decreases-loop state first out best₀ i₀ best i = out - i
 loop-holds : tie.Need-loop-init invariant-loop decreases-loop
 loop-holds c =
     let asked = c.requires in
-    (asked.order, omega (arith, largest-le (λ j. get_or c.args.state.now (4 * j) 0) c.args.first 0 (λ j h. omega (arith, asked.ended j h))))
+    (asked.order, omega (arith, largest_le (λ j. get_or c.args.state.now (4 * j) 0) c.args.first 0 (λ j h. omega (arith, asked.ended j h))))
 
 mul-larger : tie.Need-overflow-mul-larger invariant-loop decreases-loop
 mul-larger c = search rules
@@ -41,12 +41,12 @@ loop-again : tie.Need-loop-preserved invariant-loop decreases-loop
 loop-again c =
     let at = c.before.before.before in
     let inv = at.loop.invariant in
-    (omega (arith, c.before.before.loop-test.true), largest-more _ at.loop.i _ _ _ inv.1 refl c.larger.ensures)
+    (omega (arith, c.before.before.loop-test.true), largest_more _ at.loop.i _ _ _ inv.1 refl c.larger.ensures)
 
 returns : tie.Need-returns invariant-loop decreases-loop
 returns c =
     let at = c.before in
-    largest-all _ _ at.loop.i _ at.loop.invariant.0 (omega (arith, c.loop-test.false)) at.loop.invariant.1
+    largest_all _ _ at.loop.i _ at.loop.invariant.0 (omega (arith, c.loop-test.false)) at.loop.invariant.1
 
 pub top-spec : {M : Type 1} → statement M
 top-spec =

@@ -1,5 +1,5 @@
 use mathlib.Core.Path.{refl}
-use Rattle.walk.specs.Laws.Keyed.{weighs, weighs-none}
+use Rattle.walk.specs.Laws.Keyed.{weighs, weighs_none}
 use borrow.Author.Rules.{rules}
 use Rattle.walk.proofs.choice.weight.Statement.{statement}
 use Rattle.walk.proofs.choice.weight.Tie as tie
@@ -27,7 +27,7 @@ returns-2 : tie.Need-returns-2
 returns-2 c =
     let at = c.before in
     let entry = at.before in
-    weighs-none entry.args.set.now entry.args.state.now entry.requires entry.args.i (rw at.jobs.ensures at c.if1.false)
+    weighs_none entry.args.set.now entry.args.state.now entry.requires entry.args.i (rw at.jobs.ensures at c.if1.false)
 
 pub weight-spec : {M : Type 1} → statement M
 weight-spec =

@@ -5,12 +5,12 @@ use native.Mathlib.Nat.{pos_of_ne-zero}
 use mathlib.Core.Path.{refl}
 use borrow.Author.Rules.{rules}
 use Rattle.walk.specs.Count.{count_of, Few}
-use Rattle.walk.specs.Laws.Twigs.{job-fits}
-use Rattle.walk.proofs.Hanging.{hung-past, hang-few, hung-last, hang-fits, hang-grows, hung-job}
-use Rattle.walk.proofs.Growing.{grown-none, late-fits, early-fits, grow-leaves, grown-left, grow-cuts, grown-cut}
-use Rattle.walk.proofs.Turn.{Turn, turn-span, turn_last, turn-less, turn-hang, turn_more}
-use Rattle.walk.proofs.Leaving.{segment-small, leave-ended, leave-starts, left-all}
-use Rattle.walk.proofs.Cutting.{cut-switch, cut-hangs, cut_all}
+use Rattle.walk.specs.Laws.Twigs.{job_fits}
+use Rattle.walk.proofs.Hanging.{hung_past, hang_few, hung_last, hang_fits, hang_grows, hung_job}
+use Rattle.walk.proofs.Growing.{grown_none, late_fits, early_fits, grow_leaves, grown_left, grow_cuts, grown_cut}
+use Rattle.walk.proofs.Turn.{Turn, turn_span, turn_last, turn_less, turn_hang, turn_more}
+use Rattle.walk.proofs.Leaving.{segment_small, leave_ended, leave_starts, left_all}
+use Rattle.walk.proofs.Cutting.{cut_switch, cut_hangs, cut_all}
 use borrow.Fn.Kinds.{In}
 use borrow.Fn.PlainCycle.{Measures, is, falls, and}
 use Rattle.walk.proofs.descent.cut_off.Reads as cut_off
@@ -73,8 +73,8 @@ grow-below t = and 3 grow-kinds.ps (falls 3 grow-kinds.ps ◌<◌ μ-grow t) gro
 abbrev hang-at : ℕ → In 3 hang-kinds.ps
 hang-at t = and 3 hang-kinds.ps (is 3 hang-kinds.ps μ-hang t) hang.Pre
 
-abbrev hang-below : ℕ → In 3 hang-kinds.ps
-hang-below t = and 3 hang-kinds.ps (falls 3 hang-kinds.ps ◌<◌ μ-hang t) hang.Pre
+abbrev hang_below : ℕ → In 3 hang-kinds.ps
+hang_below t = and 3 hang-kinds.ps (falls 3 hang-kinds.ps ◌<◌ μ-hang t) hang.Pre
 
 abbrev leave-at : ℕ → In 3 leave-kinds.ps
 leave-at t = and 3 leave-kinds.ps (is 3 leave-kinds.ps μ-leave t) leave.Pre
@@ -83,7 +83,7 @@ abbrev leave-below : ℕ → In 3 leave-kinds.ps
 leave-below t = and 3 leave-kinds.ps (falls 3 leave-kinds.ps ◌<◌ μ-leave t) leave.Pre
 
 abbrev cut-off-calls : ℕ → cut-off-lts.Claims
-cut-off-calls t = (of-job-reads.Asked, of-job-reads.Learnt, least-left-reads.Asked, least-left-reads.Learnt, state-cut-reads.Asked, state-cut-reads.Learnt, state-put-reads.Asked, state-put-reads.Learnt, switches-cut-reads.Asked, switches-cut-reads.Learnt, hang-below t, hang.Post)
+cut-off-calls t = (of-job-reads.Asked, of-job-reads.Learnt, least-left-reads.Asked, least-left-reads.Learnt, state-cut-reads.Asked, state-cut-reads.Learnt, state-put-reads.Asked, state-put-reads.Learnt, switches-cut-reads.Asked, switches-cut-reads.Learnt, hang_below t, hang.Post)
 
 abbrev grow-calls : ℕ → grow-lts.Claims
 grow-calls t = (of-job-reads.Asked, of-job-reads.Learnt, released-reads.Asked, released-reads.Learnt, weight-reads.Asked, weight-reads.Learnt, above-reads.Asked, above-reads.Learnt, leave-below t, leave.Post, cut-off-below t, cut_off.Post)
@@ -92,12 +92,12 @@ abbrev hang-calls : ℕ → hang-lts.Claims
 hang-calls t = (nodes-reads.Asked, nodes-reads.Learnt, jobs-reads.Asked, jobs-reads.Learnt, nodes-put-reads.Asked, nodes-put-reads.Learnt, with-order-reads.Asked, with-order-reads.Learnt, of-job-reads.Asked, of-job-reads.Learnt, resumed-reads.Asked, resumed-reads.Learnt, state-put-reads.Asked, state-put-reads.Learnt, with-node-reads.Asked, with-node-reads.Learnt, grow-below t, grow.Post)
 
 abbrev leave-calls : ℕ → leave-lts.Claims
-leave-calls t = (of-job-reads.Asked, of-job-reads.Learnt, leave-kind-reads.Asked, leave-kind-reads.Learnt, begun-reads.Asked, begun-reads.Learnt, state-put-reads.Asked, state-put-reads.Learnt, first-unfinished-reads.Asked, first-unfinished-reads.Learnt, span-reads.Asked, span-reads.Learnt, hang-below t, hang.Post)
+leave-calls t = (of-job-reads.Asked, of-job-reads.Learnt, leave-kind-reads.Asked, leave-kind-reads.Learnt, begun-reads.Asked, begun-reads.Learnt, state-put-reads.Asked, state-put-reads.Learnt, first-unfinished-reads.Asked, first-unfinished-reads.Learnt, span-reads.Asked, span-reads.Learnt, hang_below t, hang.Post)
 
 cut-off-put-requires-2 : (t : ℕ) → cut-off-lts.Need-put-requires-2 (cut-off-calls t) (cut-off-at t) cut_off.Post
 cut-off-put-requires-2 t c κs =
     let asked = c.before.before.before.before.before.before.before.before.before.before.before.before.before.before.before.requires.1 in
-    job-fits asked.loaded asked.rep
+    job_fits asked.loaded asked.rep
 
 cut-off-returns : (t : ℕ) → cut-off-lts.Need-returns (cut-off-calls t) (cut-off-at t) cut_off.Post
 cut-off-returns t c =
@@ -115,7 +115,7 @@ grow-leave-requires t c κs =
     let job = above.before.before.before.before.before.before in
     let start = job.before.before.before.before in (
       omega (arith, start.requires.0),
-      grow-leaves start.requires.1 job.of-job.ensures (pos_of_ne-zero job.before.before.if1.false)
+      grow_leaves start.requires.1 job.of-job.ensures (pos_of_ne-zero job.before.before.if1.false)
           refl refl above.before.before.before.released.ensures above.before.weight.ensures above.above.ensures,
     )
 
@@ -125,7 +125,7 @@ grow-returns-2 t c =
     let above = left.before.before.before in
     let job = above.before.before.before.before.before.before in
     let start = job.before.before.before.before in
-    grown-left start.requires.1 job.of-job.ensures (pos_of_ne-zero job.before.before.if1.false)
+    grown_left start.requires.1 job.of-job.ensures (pos_of_ne-zero job.before.before.if1.false)
     refl refl above.before.before.before.released.ensures above.before.weight.ensures above.above.ensures left.leave.ensures c.if2.true
 
 grow-cut-off-requires : (t : ℕ) → grow-lts.Need-cut-off-requires (grow-calls t) (grow-at t) grow.Post
@@ -135,7 +135,7 @@ grow-cut-off-requires t c κs =
     let job = above.before.before.before.before.before.before in
     let start = job.before.before.before.before in (
       omega (arith, start.requires.0),
-      grow-cuts start.requires.1 job.of-job.ensures (pos_of_ne-zero job.before.before.if1.false)
+      grow_cuts start.requires.1 job.of-job.ensures (pos_of_ne-zero job.before.before.if1.false)
           refl refl above.before.before.before.released.ensures above.before.weight.ensures above.above.ensures left.leave.ensures c.before.before.if2.false,
     )
 
@@ -145,20 +145,20 @@ grow-returns-3 t c =
     let above = left.before.before.before in
     let job = above.before.before.before.before.before.before in
     let start = job.before.before.before.before in
-    grown-cut start.requires.1 job.of-job.ensures (pos_of_ne-zero job.before.before.if1.false)
+    grown_cut start.requires.1 job.of-job.ensures (pos_of_ne-zero job.before.before.if1.false)
     refl refl above.before.before.before.released.ensures above.before.weight.ensures above.above.ensures left.leave.ensures c.before.before.cut_off.ensures
 
 hang-few-at : (t : ℕ) (counted : hang-lts.Else1 (hang-calls t) (hang-at t) hang.Post) → Few (count_of counted.before.before.before.args.seen)
-hang-few-at t counted = hang-few counted.before.before.before.requires.1 counted.before.nodes.ensures counted.if1.false
+hang-few-at t counted = hang_few counted.before.before.before.requires.1 counted.before.nodes.ensures counted.if1.false
 
 hang-fits-at : (t : ℕ) (some : hang-lts.Else2 (hang-calls t) (hang-at t) hang.Post) → some.before.before.before.before.before.before.args.x.job < 32
-hang-fits-at t some = hang-fits some.before.before.before.before.before.before.requires.1 some.before.before.before.before.nodes.ensures some.before.jobs.ensures some.if2.false
+hang-fits-at t some = hang_fits some.before.before.before.before.before.before.requires.1 some.before.before.before.before.nodes.ensures some.before.jobs.ensures some.if2.false
 
 hang-returns-2 : (t : ℕ) → hang-lts.Need-returns-2 (hang-calls t) (hang-at t) hang.Post
 hang-returns-2 t c =
     let none = c.before.before.before.before.before in
     let counted = none.before.before.before in
-    hung-last counted.before.before.before.requires.1 counted.before.nodes.ensures counted.if1.false none.before.jobs.ensures none.if2.true
+    hung_last counted.before.before.before.requires.1 counted.before.nodes.ensures counted.if1.false none.before.jobs.ensures none.if2.true
     c.before.before.before.put.ensures c.with-order.ensures
 
 hang-grow-requires : (t : ℕ) → hang-lts.Need-grow-requires (hang-calls t) (hang-at t) hang.Post
@@ -170,7 +170,7 @@ hang-grow-requires t c κs =
     let counted = some.before.before.before in
     let start = counted.before.before.before in (
       omega (arith, start.requires.0),
-      hang-grows start.requires.1 counted.before.nodes.ensures counted.if1.false some.before.jobs.ensures some.if2.false
+      hang_grows start.requires.1 counted.before.nodes.ensures counted.if1.false some.before.jobs.ensures some.if2.false
           job.of-job.ensures put.before.resumed.ensures put.put3.ensures more.with-node.ensures,
     )
 
@@ -182,7 +182,7 @@ hang-returns-3 t c =
     let job = node.before.before in
     let some = job.before.before in
     let counted = some.before.before.before in
-    hung-job counted.before.before.before.requires.1 counted.before.nodes.ensures counted.if1.false some.before.jobs.ensures some.if2.false
+    hung_job counted.before.before.before.requires.1 counted.before.nodes.ensures counted.if1.false some.before.jobs.ensures some.if2.false
     job.of-job.ensures put.before.resumed.ensures put.put3.ensures more.with-node.ensures
     node.put2.ensures c.before.before.before.before.grow.ensures c.put4.ensures
 
@@ -198,14 +198,14 @@ leave-first-unfinished-requires : (t : ℕ)
 leave-first-unfinished-requires t c κs =
     let put = c.before in
     let job = put.before.before.before.before.before in
-    leave-ended job.before.before.before.requires.1 job.of-job.ensures _ put.put.ensures
+    leave_ended job.before.before.before.requires.1 job.of-job.ensures _ put.put.ensures
 
 leave-loop-holds : (t : ℕ) → leave-lts.Need-loop-init (leave-calls t) (leave-at t) leave.Post leave-Inv-loop leave-μ-loop
 leave-loop-holds t c =
     let put = c.before.before in
     let kind = put.before.before.before in
     let job = kind.before.before in
-    leave-starts job.before.before.before.requires.1 job.of-job.ensures refl kind.leave-kind.ensures put.before.begun.ensures put.put.ensures
+    leave_starts job.before.before.before.requires.1 job.of-job.ensures refl kind.leave-kind.ensures put.before.begun.ensures put.put.ensures
     c.first-unfinished.ensures
 
 leave-hang-requires : (t : ℕ) → leave-lts.Need-hang-requires (leave-calls t) (leave-at t) leave.Post leave-Inv-loop leave-μ-loop
@@ -213,7 +213,7 @@ leave-hang-requires t c κs =
     let loop = c.before.before.before.before.before in
     let start = loop.before.before.before.before.before.before.before.before.before.before.before in (
       omega (arith, start.requires.0, start.requires.1.some),
-      turn-hang loop.loop.invariant c.before.before.before.before.loop-test.true c.before.before.span.ensures,
+      turn_hang loop.loop.invariant c.before.before.before.before.loop-test.true c.before.before.span.ensures,
     )
 
 leave-add-t : (t : ℕ) → leave-lts.Need-overflow-add-t (leave-calls t) (leave-at t) leave.Post leave-Inv-loop leave-μ-loop
@@ -229,28 +229,28 @@ leave-returns t c =
     let put = next.before.before in
     let kind = put.before.before.before in
     let job = kind.before.before in
-    left-all job.before.before.before.requires.1 job.of-job.ensures refl kind.leave-kind.ensures put.before.begun.ensures put.put.ensures
+    left_all job.before.before.before.requires.1 job.of-job.ensures refl kind.leave-kind.ensures put.before.begun.ensures put.put.ensures
     next.first-unfinished.ensures test.before.loop.invariant test.loop-test.false c.put2.ensures
 
 pub +cut-off-grow-hang-leave-spec : {M : Type 1} → statement M
 +cut-off-grow-hang-leave-spec = close μ-cut-off μ-grow μ-hang μ-leave
     (λ t. cut-off-lts.spec (cut-off-calls t) (cut-off-at t) cut_off.Post
-    (λ c κs. search job-fits)
+    (λ c κs. search job_fits)
     (λ c κs. search rules)
     (λ c. search rules)
     (λ c κs. search rules)
-    (λ c κs. search job-fits)
-    (λ c κs. search cut-switch)
+    (λ c κs. search job_fits)
+    (λ c κs. search cut_switch)
     (λ c. search rules)
-    (λ c κs. search (cut-hangs, rules))
+    (λ c κs. search (cut_hangs, rules))
     (cut-off-put-requires-2 t)
     (λ c. search rules)
     (cut-off-returns t))
     (λ t. grow-lts.spec (grow-calls t) (grow-at t) grow.Post
-    (λ c. search grown-none)
-    (λ c κs. search job-fits)
-    (λ c. omega (arith, early-fits c.before.before.before.before.before.requires.1 c.before.of-job.ensures))
-    (λ c. omega (arith, late-fits c.before.before.before.before.before.before.requires.1 c.before.before.of-job.ensures))
+    (λ c. search grown_none)
+    (λ c κs. search job_fits)
+    (λ c. omega (arith, early_fits c.before.before.before.before.before.requires.1 c.before.of-job.ensures))
+    (λ c. omega (arith, late_fits c.before.before.before.before.before.before.requires.1 c.before.before.of-job.ensures))
     (λ c κs. search rules)
     (λ c κs. search rules)
     (λ c κs. search rules)
@@ -262,7 +262,7 @@ pub +cut-off-grow-hang-leave-spec : {M : Type 1} → statement M
     (grow-returns-3 t))
     (λ t. hang-lts.spec (hang-calls t) (hang-at t) hang.Post
     (λ c κs. search rules)
-    (λ c. hung-past c.before.before.before.requires.1 c.before.nodes.ensures c.if1.true)
+    (λ c. hung_past c.before.before.before.requires.1 c.before.nodes.ensures c.if1.true)
     (λ c. search rules)
     (λ c κs. search rules)
     (λ c κs. search rules)
@@ -281,19 +281,19 @@ pub +cut-off-grow-hang-leave-spec : {M : Type 1} → statement M
     (λ t. leave-lts.spec (leave-calls t) (leave-at t) leave.Post
     leave-Inv-loop
     leave-μ-loop
-    (λ c κs. search job-fits)
-    (λ c. omega (arith, segment-small c.before.before.before.before.requires.1 c.before.of-job.ensures))
+    (λ c κs. search job_fits)
+    (λ c. omega (arith, segment_small c.before.before.before.before.requires.1 c.before.of-job.ensures))
     (λ c κs. search rules)
     (λ c κs. search rules)
-    (λ c κs. search job-fits)
+    (λ c κs. search job_fits)
     (leave-first-unfinished-requires t)
     (leave-loop-holds t)
-    (λ c κs. turn-span c.before.before.loop.invariant c.before.loop-test.true)
+    (λ c κs. turn_span c.before.before.loop.invariant c.before.loop-test.true)
     (λ c. c.before.before.before.before.before.before.before.before.before.before.before.before.before.before.before.before.requires.1.some)
     (leave-hang-requires t)
     (leave-add-t t)
-    (λ c. search turn-less)
+    (λ c. search turn_less)
     (λ c. search turn_more)
-    (λ c κs. let asked = c.before.before.before.before.before.before.before.before.before.before.before.before.before.requires.1 in job-fits asked.loaded asked.rep)
+    (λ c κs. let asked = c.before.before.before.before.before.before.before.before.before.before.before.before.before.requires.1 in job_fits asked.loaded asked.rep)
     (λ c. search rules)
     (leave-returns t))

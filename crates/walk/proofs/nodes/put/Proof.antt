@@ -2,7 +2,7 @@ use Prim.Native.Nat.{◌*◌}
 use mathlib.Core.Path.{sym}
 use borrow.Author.Rules.{rules}
 use Rattle.walk.specs.Nodes.{row_of}
-use Rattle.walk.proofs.Rows.{sets-out, eight-stores}
+use Rattle.walk.proofs.Rows.{sets_out, eight_stores}
 use Rattle.walk.proofs.nodes.put.Statement.{statement}
 use Rattle.walk.proofs.nodes.put.Tie as tie
 
@@ -12,7 +12,7 @@ mul-i c = search rules
 returns : tie.Need-returns
 returns c =
     let args = c.before.before.args in
-    sym (sets-out (row_of args.parent args.x args.job args.segment) args.nodes.now (8 * args.at) c.if1.true)
+    sym (sets_out (row_of args.parent args.x args.job args.segment) args.nodes.now (8 * args.at) c.if1.true)
 
 store-requires : tie.Need-store-requires
 store-requires c κs = search rules
@@ -73,7 +73,7 @@ returns-2 c =
     let s2 = s3.before.before.before.before in
     let s1 = s2.before.before.before.before in
     let entry = s1.before.before.before.before in
-    eight-stores entry.args.nodes.now s1.store.new.0 s2.store2.new.0 s3.store3.new.0 s4.store4.new.0
+    eight_stores entry.args.nodes.now s1.store.new.0 s2.store2.new.0 s3.store3.new.0 s4.store4.new.0
     s5.store5.new.0 s6.store6.new.0 s7.store7.new.0 s8.store8.new.0
     (8 * entry.args.at) _ _ _ _ _ _ _ _
     s1.store.ensures s2.store2.ensures s3.store3.ensures s4.store4.ensures

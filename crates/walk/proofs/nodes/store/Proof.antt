@@ -1,5 +1,5 @@
 use borrow.Author.Rules.{rules}
-use Rattle.kernel.proofs.Arrays.{store-past}
+use Rattle.kernel.proofs.Arrays.{store_past}
 use Rattle.walk.proofs.nodes.store.Statement.{statement}
 use Rattle.walk.proofs.nodes.store.Tie as tie
 
@@ -17,7 +17,7 @@ returns c = search rules
 
 returns-2 : tie.Need-returns-2
 returns-2 c =
-    search store-past
+    search store_past
 
 pub store_spec : {M : Type 1} → statement M
 store_spec = tie.close (tie.spec mul-nodes slice-write-nodes same_length returns returns-2)

@@ -3,14 +3,14 @@ use native.Mathlib.Omega.{arith}
 use mathlib.Core.Path.{◌∙◌, ap, ◌≡◌}
 use lib.ListN.{length}
 use borrow.Author.Rules.{rules}
-use Rattle.kernel.specs.Words.{setOf}
-use Rattle.walk.specs.State.{standingAt, newAt}
-use Rattle.walk.specs.Laws.Standing.{put-length, standing-cases}
+use Rattle.kernel.specs.Words.{set_of}
+use Rattle.walk.specs.State.{standing_at, new_at}
+use Rattle.walk.specs.Laws.Standing.{put_length, standing_cases}
 use Rattle.walk.proofs.state.fresh.Statement.{statement}
 use Rattle.walk.proofs.state.fresh.Tie as tie
 
 abbrev invariant-loop : tie.invariant-loop
-invariant-loop set state₀ i₀ state i = (i ≤ 32) × (length state ≡ 128) × ((j : ℕ) → j < i → standingAt state j ≡ newAt (setOf set) j)
+invariant-loop set state₀ i₀ state i = (i ≤ 32) × (length state ≡ 128) × ((j : ℕ) → j < i → standing_at state j ≡ new_at (set_of set) j)
 
 abbrev decreases-loop : tie.decreases-loop
 decreases-loop set state₀ i₀ state i = 32 - i
@@ -38,9 +38,9 @@ loop-again c =
     let i = at.loop.i in
     let h : i < 32 = c.before.before.before.loop-test.true in (
       omega arith,
-      ap length c.put.ensures ∙ put-length _ _ _ ∙ inv.1,
-      λ j q. rw c.put.ensures (standing-cases at.loop.state i c.before.new.result inv.1 h
-          (λ m x. m < i + 1 → x ≡ newAt (setOf at.before.args.set.now) m)
+      ap length c.put.ensures ∙ put_length _ _ _ ∙ inv.1,
+      λ j q. rw c.put.ensures (standing_cases at.loop.state i c.before.new.result inv.1 h
+          (λ m x. m < i + 1 → x ≡ new_at (set_of at.before.args.set.now) m)
           (λ z. c.before.new.ensures)
           (λ m n (z : m < i + 1). inv.2 m (omega arith)) j q),
     )

@@ -1,7 +1,7 @@
 use Prim.Native.Nat.{◌*◌}
 use mathlib.Core.Path.{refl}
 use borrow.Author.Rules.{rules}
-use Rattle.kernel.proofs.Arrays.{four-stores}
+use Rattle.kernel.proofs.Arrays.{four_stores}
 use Rattle.walk.specs.State.{put_at}
 use Rattle.walk.proofs.state.put.Statement.{statement}
 use Rattle.walk.proofs.state.put.Tie as tie
@@ -54,7 +54,7 @@ element-write-state-4 c = search rules
 returns : tie.Need-returns
 unfolding put_at
 returns c =
-    four-stores c.args.state.now _ _ _ _ (4 * c.args.i) c.args.x.key c.args.x.segment c.args.x.least c.args.x.most refl refl refl refl
+    four_stores c.args.state.now _ _ _ _ (4 * c.args.i) c.args.x.key c.args.x.segment c.args.x.least c.args.x.most refl refl refl refl
 
 pub put_spec : {M : Type 1} → statement M
 put_spec =

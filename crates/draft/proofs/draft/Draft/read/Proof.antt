@@ -1,10 +1,10 @@
-use Rattle.draft.specs.Laws.Reading.{read-over, read-line}
+use Rattle.draft.specs.Laws.Reading.{read_over, read_line_lem}
 use borrow.Author.Rules.{rules}
 use Rattle.draft.proofs.draft.Draft.read.Statement.{statement}
 use Rattle.draft.proofs.draft.Draft.read.Tie as tie
 
 returns : tie.Need-returns
-returns c = (c.before.before.before.before.before.requires, λ blank x h. read-over _ blank _ _ _ x h _ _ c.if1.true)
+returns c = (c.before.before.before.before.before.requires, λ blank x h. read_over _ blank _ _ _ x h _ _ c.if1.true)
 
 line-at-requires : tie.Need-line-at-requires
 line-at-requires c κs = search rules
@@ -23,7 +23,7 @@ returns-2 c =
     let with = c.before.before.before.before in
     let line = with.before.before.before.before in
     let none = line.before in
-    (with.with.ensures.0, λ blank x h. read-line _ blank _ _ _ x h none.if1.false _ _ _ _ _ _ line.line_at_lem.ensures with.with.ensures.1)
+    (with.with.ensures.0, λ blank x h. read_line_lem _ blank _ _ _ x h none.if1.false _ _ _ _ _ _ line.line_at_lem.ensures with.with.ensures.1)
 
 pub read_spec : {M : Type 1} → statement M
 read_spec =

@@ -1,5 +1,5 @@
-use Rattle.draft.specs.Text.{withLine}
-use Rattle.draft.specs.Laws.Drafting.{drawn-refused}
+use Rattle.draft.specs.Text.{with_line}
+use Rattle.draft.specs.Laws.Drafting.{drawn_refused}
 use borrow.Author.Rules.{rules}
 use Rattle.draft.proofs.draft.Draft.with.Statement.{statement}
 use Rattle.draft.proofs.draft.Draft.with.Tie as tie
@@ -32,7 +32,7 @@ refused-requires : tie.Need-refused-requires
 refused-requires c κs = search rules
 
 returns : tie.Need-returns
-unfolding withLine
+unfolding with_line
 returns c = (c.before.before.before.before.requires, λ s blank x z h. rw c.enum_told.given.1 h)
 
 same_length : tie.Need-same-length
@@ -42,7 +42,7 @@ same-length-2 : tie.Need-same-length-2
 same-length-2 c = search rules
 
 returns-2 : tie.Need-returns-2
-unfolding withLine
+unfolding with_line
 returns-2 c =
     let with = c.before.before.before.before in
     (with.with-frame.ensures.0, λ s blank x z h. rw with.before.before.before.before.what.given.1 (with.with-frame.ensures.1 s blank x z h))
@@ -54,7 +54,7 @@ same-length-4 : tie.Need-same-length-4
 same-length-4 c = search rules
 
 returns-3 : tie.Need-returns-3
-unfolding withLine
+unfolding with_line
 returns-3 c =
     let with = c.before.before.before.before in
     (with.with-job.ensures.0, λ s blank x z h. rw with.before.before.before.before.what2.given.1 (with.with-job.ensures.1 s blank x z h))
@@ -66,15 +66,15 @@ same-length-6 : tie.Need-same-length-6
 same-length-6 c = search rules
 
 returns-4 : tie.Need-returns-4
-unfolding withLine
+unfolding with_line
 returns-4 c =
     let with = c.before.before.before.before in
     (with.with-segment.ensures.0, λ s blank x z h. rw with.before.before.before.before.what3.given.1 (with.with-segment.ensures.1 s blank x z h))
 
 returns-5 : tie.Need-returns-5
-unfolding withLine
+unfolding with_line
 returns-5 c =
-    (c.refused.ensures.0, λ s blank x z h. rw (c.before.before.what4.given.1, c.refused.ensures.1) (drawn-refused s blank _ _ _ x z h _ _))
+    (c.refused.ensures.0, λ s blank x z h. rw (c.before.before.what4.given.1, c.refused.ensures.1) (drawn_refused s blank _ _ _ x z h _ _))
 
 pub with-spec : {M : Type 1} → statement M
 with-spec =

@@ -1,6 +1,6 @@
 use native.Mathlib.Omega.{arith}
 use mathlib.Core.Path.{sym, ◌∙◌}
-use Rattle.draft.specs.Laws.Drafting.{job-early, job-bare, job-long, job-fits}
+use Rattle.draft.specs.Laws.Drafting.{job_early, job_bare, job_long, job_fits}
 use borrow.Author.Rules.{rules}
 use Rattle.draft.proofs.draft.Draft.with_job.Statement.{statement}
 use Rattle.draft.proofs.draft.Draft.with_job.Tie as tie
@@ -10,7 +10,7 @@ refused-requires c κs = search rules
 
 returns : tie.Need-returns
 returns c =
-    (c.refused.ensures.0, λ s blank x z h. rw c.refused.ensures.1 (job-early s blank _ _ _ x z h _ _ _ c.before.if1.true))
+    (c.refused.ensures.0, λ s blank x z h. rw c.refused.ensures.1 (job_early s blank _ _ _ x z h _ _ _ c.before.if1.true))
 
 bare-requires : tie.Need-bare-requires
 bare-requires c κs = search rules
@@ -21,7 +21,7 @@ refused-requires-2 c κs = search rules
 returns-2 : tie.Need-returns-2
 returns-2 c =
     let bare = c.before.before in
-    (c.refused2.ensures.0, λ s blank x z h. rw c.refused2.ensures.1 (job-bare s blank _ _ _ x z h _ _ _ bare.before.if1.false (sym bare.bare.ensures ∙ c.before.if2.true)))
+    (c.refused2.ensures.0, λ s blank x z h. rw c.refused2.ensures.1 (job_bare s blank _ _ _ x z h _ _ _ bare.before.if1.false (sym bare.bare.ensures ∙ c.before.if2.true)))
 
 sub-if3 : tie.Need-overflow-sub-if3
 sub-if3 c = search rules
@@ -33,7 +33,7 @@ returns-3 : tie.Need-returns-3
 returns-3 c =
     let test = c.before.before in
     let bare = test.before in
-    (c.refused3.ensures.0, λ s blank x z h. rw c.refused3.ensures.1 (job-long s blank _ _ _ x z h _ _ _ bare.before.if1.false (sym bare.bare.ensures ∙ test.if2.false) c.before.if3.true))
+    (c.refused3.ensures.0, λ s blank x z h. rw c.refused3.ensures.1 (job_long s blank _ _ _ x z h _ _ _ bare.before.if1.false (sym bare.bare.ensures ∙ test.if2.false) c.before.if3.true))
 
 put-job-requires : tie.Need-put-job-requires
 put-job-requires c κs = search rules
@@ -58,7 +58,7 @@ returns-4 c =
     let test = fits.before in
     let bare = test.before in (
       record { length = omega (arith, fits.if3.false); job = bare.before.before.before.before.requires.length },
-      λ s blank x z h. job-fits s blank _ _ _ x z h _ _ _ _ _ bare.before.if1.false (sym bare.bare.ensures ∙ test.if2.false) fits.if3.false put.put-job.ensures note.note.ensures,
+      λ s blank x z h. job_fits s blank _ _ _ x z h _ _ _ _ _ bare.before.if1.false (sym bare.bare.ensures ∙ test.if2.false) fits.if3.false put.put-job.ensures note.note.ensures,
     )
 
 pub with-job-spec : {M : Type 1} → statement M

@@ -1,5 +1,5 @@
 use native.Mathlib.Omega.{arith}
-use Rattle.draft.specs.Laws.Drafting.{segment-early, segment-jobless, segment-many, segment-long, segment-fits}
+use Rattle.draft.specs.Laws.Drafting.{segment_early, segment_jobless, segment_many, segment_long, segment_fits}
 use borrow.Author.Rules.{rules}
 use Rattle.draft.proofs.draft.Draft.with_segment.Statement.{statement}
 use Rattle.draft.proofs.draft.Draft.with_segment.Tie as tie
@@ -9,14 +9,14 @@ refused-requires c κs = search rules
 
 returns : tie.Need-returns
 returns c =
-    (c.refused.ensures.0, λ s blank x z h. rw c.refused.ensures.1 (segment-early s blank _ _ _ x z h _ _ c.before.if1.true))
+    (c.refused.ensures.0, λ s blank x z h. rw c.refused.ensures.1 (segment_early s blank _ _ _ x z h _ _ c.before.if1.true))
 
 refused-requires-2 : tie.Need-refused-requires-2
 refused-requires-2 c κs = search rules
 
 returns-2 : tie.Need-returns-2
 returns-2 c =
-    (c.refused2.ensures.0, λ s blank x z h. rw c.refused2.ensures.1 (segment-jobless s blank _ _ _ x z h _ _ c.before.before.if1.false c.before.if2.true))
+    (c.refused2.ensures.0, λ s blank x z h. rw c.refused2.ensures.1 (segment_jobless s blank _ _ _ x z h _ _ c.before.before.if1.false c.before.if2.true))
 
 refused-requires-3 : tie.Need-refused-requires-3
 refused-requires-3 c κs = search rules
@@ -24,7 +24,7 @@ refused-requires-3 c κs = search rules
 returns-3 : tie.Need-returns-3
 returns-3 c =
     let job = c.before.before in
-    (c.refused3.ensures.0, λ s blank x z h. rw c.refused3.ensures.1 (segment-many s blank _ _ _ x z h _ _ job.before.if1.false job.if2.false c.before.if3.true))
+    (c.refused3.ensures.0, λ s blank x z h. rw c.refused3.ensures.1 (segment_many s blank _ _ _ x z h _ _ job.before.if1.false job.if2.false c.before.if3.true))
 
 sub-if4 : tie.Need-overflow-sub-if4
 sub-if4 c = search rules
@@ -36,7 +36,7 @@ returns-4 : tie.Need-returns-4
 returns-4 c =
     let few = c.before.before in
     let job = few.before in
-    (c.refused4.ensures.0, λ s blank x z h. rw c.refused4.ensures.1 (segment-long s blank _ _ _ x z h _ _ job.before.if1.false job.if2.false few.if3.false (omega (arith, c.before.if4.true))))
+    (c.refused4.ensures.0, λ s blank x z h. rw c.refused4.ensures.1 (segment_long s blank _ _ _ x z h _ _ job.before.if1.false job.if2.false few.if3.false (omega (arith, c.before.if4.true))))
 
 put-segment-requires : tie.Need-put-segment-requires
 put-segment-requires c κs = search rules
@@ -72,7 +72,7 @@ returns-5 c =
     let job = few.before in
     let entry = job.before.before.before.before in (
       record { length = omega (arith, fits.if4.false); job = entry.requires.job },
-      λ s blank x z h. segment-fits s blank _ _ _ x z h _ _ job.before.if1.false job.if2.false put.put-segment.new.0 _ _ few.if3.false (omega (arith, fits.if4.false)) put.put-segment.ensures count.put_count.ensures note.note.ensures,
+      λ s blank x z h. segment_fits s blank _ _ _ x z h _ _ job.before.if1.false job.if2.false put.put-segment.new.0 _ _ few.if3.false (omega (arith, fits.if4.false)) put.put-segment.ensures count.put_count.ensures note.note.ensures,
     )
 
 pub with-segment-spec : {M : Type 1} → statement M

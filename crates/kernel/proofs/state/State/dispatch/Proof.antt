@@ -1,5 +1,5 @@
 use borrow.Author.Rules.{rules}
-use Rattle.kernel.specs.Code.{dispatchStep}
+use Rattle.kernel.specs.Code.{dispatch_step}
 use Rattle.kernel.proofs.state.State.dispatch.Statement.{statement}
 use Rattle.kernel.proofs.state.State.dispatch.Tie as tie
 
@@ -25,7 +25,7 @@ array-read-left : tie.Need-array-read-left
 array-read-left c = search rules
 
 returns : tie.Need-returns
-unfolding dispatchStep
+unfolding dispatch_step
 returns c = cc
 
 pub dispatch-spec : {M : Type 1} → statement M

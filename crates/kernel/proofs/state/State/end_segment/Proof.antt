@@ -1,5 +1,5 @@
 use borrow.Author.Rules.{rules}
-use Rattle.kernel.specs.Code.{endStep}
+use Rattle.kernel.specs.Code.{end_step}
 use Rattle.kernel.proofs.state.State.end_segment.Statement.{statement}
 use Rattle.kernel.proofs.state.State.end_segment.Tie as tie
 
@@ -46,7 +46,7 @@ jobs-requires : tie.Need-jobs-requires
 jobs-requires c κs = search rules
 
 returns : tie.Need-returns
-unfolding endStep
+unfolding end_step
 returns c = rw (c.jobs.ensures, c.before.before.before.before.ready-key.ensures, c.before.before.before.before.before.time.ensures, c.before.before.before.before.before.before.leave-kind.ensures)
 
 pub end-segment-spec : {M : Type 1} → statement M

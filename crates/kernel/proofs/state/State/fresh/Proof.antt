@@ -4,13 +4,13 @@ use mathlib.Core.Path.{◌≡◌, refl}
 use lib.ListN.{length-set, get_or, length}
 use borrow.Author.Rules.{rules}
 use Rattle.kernel.specs.Laws.Stores.{filled_more}
-use Rattle.kernel.specs.Code.{timeAt}
+use Rattle.kernel.specs.Code.{time_at}
 use Rattle.kernel.proofs.Arrays.{zeros}
 use Rattle.kernel.proofs.state.State.fresh.Statement.{statement}
 use Rattle.kernel.proofs.state.State.fresh.Tie as tie
 
 abbrev invariant-loop : tie.invariant-loop
-invariant-loop set times rest₀ i₀ rest i = (i ≤ 32) × (length rest ≡ 32) × ((j : ℕ) → j < i → get_or rest j 0 ≡ timeAt set times j 0)
+invariant-loop set times rest₀ i₀ rest i = (i ≤ 32) × (length rest ≡ 32) × ((j : ℕ) → j < i → get_or rest j 0 ≡ time_at set times j 0)
 
 abbrev decreases-loop : tie.decreases-loop
 decreases-loop set times rest₀ i₀ rest i = 32 - i

@@ -1,5 +1,5 @@
 use borrow.Author.Rules.{rules}
-use Rattle.kernel.specs.Code.{releaseStep}
+use Rattle.kernel.specs.Code.{release_step}
 use Rattle.kernel.proofs.state.State.release_one.Statement.{statement}
 use Rattle.kernel.proofs.state.State.release_one.Tie as tie
 
@@ -16,7 +16,7 @@ add-self : tie.Need-overflow-add-self
 add-self c = search rules
 
 returns : tie.Need-returns
-unfolding releaseStep
+unfolding release_step
 returns c = rw c.ready-key.ensures
 
 pub release-one-spec : {M : Type 1} → statement M

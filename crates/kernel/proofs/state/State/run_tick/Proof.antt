@@ -1,6 +1,6 @@
 use mathlib.Core.Path.{refl}
 use borrow.Author.Rules.{rules}
-use Rattle.kernel.specs.Code.{tickStep}
+use Rattle.kernel.specs.Code.{tick_step}
 use Rattle.kernel.proofs.state.State.run_tick.Statement.{statement}
 use Rattle.kernel.proofs.state.State.run_tick.Tie as tie
 
@@ -8,7 +8,7 @@ sub_self : tie.Need-overflow-sub-self
 sub_self c = search rules
 
 returns : tie.Need-returns
-unfolding tickStep
+unfolding tick_step
 returns c = refl
 
 pub run-tick-spec : {M : Type 1} → statement M
