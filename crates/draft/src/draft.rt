@@ -9,7 +9,7 @@ use crate::forms::Line;
 use crate::locks::Names;
 use crate::{bytes, forms, text};
 
-#[derive(Drop)]
+#[derive(Clone, Copy)]
 pub struct Draft {
     // The cause for which the text is refused, and its line; without a cause the line read last.
     pub cause: u32,

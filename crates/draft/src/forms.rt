@@ -8,7 +8,7 @@ use crate::locks::Names;
 use crate::text::Number;
 use crate::{locks, text};
 
-#[derive(Drop)]
+#[derive(Clone, Copy)]
 pub enum Line {
     // No word.
     Nothing,
@@ -23,7 +23,7 @@ pub enum Line {
 }
 
 // A line, and the lock names known after it.
-#[derive(Drop)]
+#[derive(Clone, Copy)]
 pub struct Said {
     pub line: Line,
     pub names: Names,

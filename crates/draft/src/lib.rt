@@ -1,4 +1,6 @@
 // Job tables written as text, turned into table bytes.
+#![tactic(auto)]
+
 ghost use Rattle.std.specs.Prelude.{◌≡◌, ◌+◌, ◌≤◌, length, get_or, take};
 ghost use Rattle.std.proofs.lemmas.List.Edits.{sets};
 ghost use Rattle.draft.specs.Packing.{or_last, pack_of, Gives};
@@ -12,7 +14,7 @@ mod locks;
 mod text;
 
 // What packing a text answers: 0 and how many bytes it made; or the cause for which the text is refused and the line where it arose.
-#[derive(Drop)]
+#[derive(Clone, Copy)]
 pub struct Packed {
     pub cause: u32,
     pub line: u32,

@@ -8,14 +8,14 @@ ghost use Rattle.draft.specs.Known.{Knows, word_at, with_name, LocksAre};
 use crate::text;
 
 // The names so far: the places in the text where each stood first.
-#[derive(Drop)]
+#[derive(Clone, Copy)]
 pub struct Names {
     pub count: usize,
     pub start: [usize; 16],
 }
 
 // The locks of a segment: whether there were too many names, the bits, and the names known after it.
-#[derive(Drop)]
+#[derive(Clone, Copy)]
 pub struct Locks {
     pub full: bool,
     pub held: u16,

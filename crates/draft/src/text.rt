@@ -124,7 +124,7 @@ pub fn same(a: &[u8], b: &[u8]) -> bool
 }
 
 // A number of a text that is not above a limit, or none.
-#[derive(Drop)]
+#[derive(Clone, Copy)]
 pub enum Number {
     Is(u32),
     Not,

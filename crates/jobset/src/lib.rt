@@ -1,4 +1,6 @@
 // The job set of a table, laid out as the words of the kernel's specs/Words.antt.
+#![tactic(auto)]
+
 ghost use Rattle.std.specs.Prelude.{◌≡◌, [], ◌∷◌, ◌+◌, ◌*◌, ◌<◌};
 ghost use Rattle.std.proofs.lemmas.List.Edits.{sets};
 ghost use Rattle.table.specs.Sound.{Sound};

@@ -1,4 +1,6 @@
 // The kernel of paper 01: the job set of a table, and a run tick by tick.
+#![tactic(auto)]
+
 ghost use Rattle.kernel.specs.Code.{Runs, Logged};
 
 pub mod jobs;

@@ -8,7 +8,7 @@ ghost use Rattle.kernel.specs.Laws.Key.{job_of};
 
 use crate::{jobs, keys};
 
-#[derive(Drop)]
+#[derive(Clone, Copy)]
 pub enum Kind {
     First,
     End,
@@ -17,7 +17,7 @@ pub enum Kind {
 }
 
 // What the next dispatch will report.
-#[derive(Drop)]
+#[derive(Clone, Copy)]
 pub enum Due {
     First,
     Cutting,
@@ -25,7 +25,7 @@ pub enum Due {
     Leaving(Kind, u32),
 }
 
-#[derive(Drop)]
+#[derive(Clone, Copy)]
 pub struct State {
     // Of each job: its present segment; what is left of that where the job does not run; once it is released, its key (see specs/Laws/Key.antt).
     pub segment: [u8; 32],

@@ -1,4 +1,6 @@
 // The text of the listing that paper 01 shows, written into a lent buffer as far as it goes.
+#![tactic(auto)]
+
 ghost use Rattle.std.specs.Prelude.{◌≡◌, ◌+◌, ◌*◌, ◌^◌, ◌<◌, ◌≤◌, length};
 ghost use Rattle.std.proofs.lemmas.List.Edits.{sets};
 ghost use Rattle.lines.specs.Text.{line, row_at, tick_words, node_line, head_line, refused_line, listing_of};

@@ -1,4 +1,5 @@
 // Lists the orders of a table: its bytes come from standard input, the text goes to standard output.
+#![tactic(auto)]
 
 // The text as far as the buffer has it.
 fn write(text: &[u8], length: usize) {

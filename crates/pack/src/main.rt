@@ -1,5 +1,7 @@
 // Turns a job table written as text into its bytes: text from standard input, bytes to standard output; or says on standard error on which line the text
 // is refused and why, and writes nothing else.
+#![tactic(auto)]
+
 use draft::Packed;
 
 // The longest text that is taken.

@@ -1,4 +1,6 @@
 // The services that stand on a table of bytes. Arbitrary bytes and numbers are answered, with a refusal's number where one applies.
+#![tactic(auto)]
+
 ghost use Rattle.kernel.specs.Words.{set_of, Loaded};
 ghost use Rattle.services.specs.Open.{InFrame};
 ghost use Rattle.services.specs.Times.{Tells};
@@ -15,7 +17,7 @@ mod times;
 mod told;
 
 // With a refusal every returned count is 0.
-#[derive(Drop)]
+#[derive(Clone, Copy)]
 pub struct Replayed {
     pub refusal: u32,
     pub switches: u32,
@@ -62,7 +64,7 @@ fn replay_set(set: &[u32; 322], times: &[u32], log: &mut [u32]) -> Replayed
 }
 
 // Whether the log is that of a run.
-#[derive(Drop)]
+#[derive(Clone, Copy)]
 pub struct Judged {
     pub refusal: u32,
     pub accepted: bool,
@@ -123,7 +125,7 @@ fn replays_to(set: &[u32; 322], times: &[u32; 64], log: &[u32]) -> bool
 }
 
 // How many nodes and orders the tree has.
-#[derive(Drop)]
+#[derive(Clone, Copy)]
 pub struct Drawn {
     pub refusal: u32,
     pub nodes: u32,

@@ -5,7 +5,7 @@ use crate::ending;
 use kernel::jobs;
 use table::Table;
 
-#[derive(Drop)]
+#[derive(Clone, Copy)]
 pub struct Opened {
     pub refusal: u32,
     pub set: [u32; 322],

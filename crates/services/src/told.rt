@@ -6,7 +6,7 @@ ghost use Rattle.services.specs.Told.{credited, ran_next, TellsTimes};
 use kernel::jobs;
 
 // What ran last, and since when.
-#[derive(Drop)]
+#[derive(Clone, Copy)]
 pub struct Ran {
     pub job: usize,
     pub segment: u32,

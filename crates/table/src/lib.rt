@@ -1,4 +1,6 @@
 // The job table: its bytes are read record by record, and a table that reads whole and keeps its limits is held by value.
+#![tactic(auto)]
+
 ghost use Rattle.std.specs.Prelude.{◌≡◌, List, [], ◌+◌, ◌*◌, ◌<◌};
 ghost use Rattle.table.specs.Table.{recorded};
 ghost use Rattle.table.specs.Refusal.{answer, outcome_of};
@@ -13,7 +15,7 @@ mod scan;
 use records::{Answer, Place, Record};
 use scan::{Known, Scan, Spot};
 
-#[derive(Drop)]
+#[derive(Clone, Copy)]
 pub struct Table {
     pub frame: u32,
     pub jobs: usize,
@@ -31,7 +33,7 @@ pub struct Table {
 }
 
 // What reading a table answers: 0 and the table; or the refusal, the place in the bytes where it arose, and the table of no record.
-#[derive(Drop)]
+#[derive(Clone, Copy)]
 pub struct Outcome {
     pub refusal: u32,
     pub place: usize,
@@ -39,7 +41,7 @@ pub struct Outcome {
 }
 
 // Bytes that lie together in a table.
-#[derive(Drop)]
+#[derive(Clone, Copy)]
 pub struct Extent {
     pub start: usize,
     pub length: usize,

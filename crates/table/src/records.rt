@@ -3,7 +3,7 @@ ghost use Rattle.std.specs.Prelude.{◌≡◌, ◌+◌, ◌*◌, ◌-◌, ◌≤
 ghost use Rattle.table.specs.Records.{le2, le4, sized, frame_at, job_at, segment_at, record_at, size_of, due, place_after, may_end};
 
 // What is due at a place of the table.
-#[derive(Drop)]
+#[derive(Clone, Copy)]
 pub enum Place {
     // The FR record.
     First,
@@ -13,7 +13,7 @@ pub enum Place {
     Within(u8),
 }
 
-#[derive(Drop)]
+#[derive(Clone, Copy)]
 pub enum Record {
     // The frame length.
     Frame(u32),
@@ -24,7 +24,7 @@ pub enum Record {
 }
 
 // What reading a record finds: the record, or the number of the refusal.
-#[derive(Drop)]
+#[derive(Clone, Copy)]
 pub enum Answer {
     Whole(Record),
     Refused(u32),

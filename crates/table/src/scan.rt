@@ -8,7 +8,7 @@ use crate::Table;
 use crate::records::Record;
 
 // What the records before one say: the frame length, the release of the last job, and how many jobs and segments there are.
-#[derive(Drop)]
+#[derive(Clone, Copy)]
 pub struct Known {
     pub frame: u32,
     pub release: u32,
@@ -17,13 +17,13 @@ pub struct Known {
 }
 
 // A place in the bytes, or none.
-#[derive(Drop)]
+#[derive(Clone, Copy)]
 pub enum Spot {
     Nowhere,
     At(usize),
 }
 
-#[derive(Drop)]
+#[derive(Clone, Copy)]
 pub struct Scan {
     // The release of the last job.
     pub release: u32,

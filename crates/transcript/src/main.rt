@@ -1,4 +1,6 @@
 // Runs the vectors: reads commands line by line from standard input and writes each with what the library answers.
+#![tactic(auto)]
+
 mod call;
 mod show;
 mod text;
@@ -10,7 +12,7 @@ const INPUT: usize = 524288;
 const ROOM: usize = 16384;
 
 // What the commands before one have set: how many bytes the table has, and how many words a call is lent.
-#[derive(Drop)]
+#[derive(Clone, Copy)]
 pub struct Setting {
     pub bytes: usize,
     pub room: usize,

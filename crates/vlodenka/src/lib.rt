@@ -1,5 +1,7 @@
 // The services for C: a slice passes as pointer and length, the answer is the refusal's number, and every out-parameter is written on every call. See
 // include/vlodenka.h.
+#![tactic(auto)]
+
 ghost use Rattle.std.specs.Prelude.{◌≡◌, min};
 ghost use Rattle.vlodenka.specs.Answers.{Replays, Judges, Draws, Places};
 

@@ -1,4 +1,6 @@
 // The walk over all orders of a job set, and the tree that it writes.
+#![tactic(auto)]
+
 ghost use Rattle.std.specs.Prelude.{◌≡◌};
 ghost use Rattle.kernel.specs.Words.{set_of, Loaded};
 ghost use Rattle.orders.specs.Laws.Walk.{enough};
@@ -15,7 +17,7 @@ mod tally;
 use kernel::jobs;
 
 // How many nodes and orders the tree has that was written; or it has more nodes than there is room for.
-#[derive(Drop)]
+#[derive(Clone, Copy)]
 pub enum Found {
     Whole(u32, u32),
     TooLarge,

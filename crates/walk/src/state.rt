@@ -6,7 +6,7 @@ ghost use Rattle.walk.specs.State.{standing_at, put_at, begun_at, resumed_as, cu
 use kernel::{jobs, keys};
 
 // How one job stands: its key, its present segment, and what is left of that at least and at most.
-#[derive(Drop)]
+#[derive(Clone, Copy)]
 pub struct Standing {
     pub key: u32,
     pub segment: u32,

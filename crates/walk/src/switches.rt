@@ -9,7 +9,7 @@ use crate::choice;
 use kernel::jobs;
 
 // From its first to its last tick of leaving; the job that it names, and from when to when that starts. Kinds have paper 01's numbers.
-#[derive(Drop)]
+#[derive(Clone, Copy)]
 pub struct Switch {
     pub kind: u32,
     pub first: u32,
