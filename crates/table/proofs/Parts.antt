@@ -9,7 +9,7 @@ use lib.ListN.{length, get_or, drop, length-drop}
 use lib.Dec.{ltb, eqb}
 use borrow.Author.Tests.{eq-eqb, ne_eqb, lt-ltb, le-ltb, eqb-true, ltb-true}
 use denote.Ref.{Bor}
-use borrow.Rule.Slice.PartAt.{sl_part}
+use borrow.Rule.Slice.PartAt.{sl_partˢ}
 use Rattle.table.specs.Records.{Placed, record_at, size_of, due, lacking, place_after, may_end, reading_of}
 use Rattle.table.specs.Table.{JobEntry, jobs_from, table_from, recorded}
 use Rattle.table.specs.Refusal.{refusal, outcome_of}
@@ -137,9 +137,9 @@ there_fits s j = go (has s j) refl
     go false e = unfold start_of length_of in rw e (omega arith)
 
 -- the part that lies there
-pub at_job : (x : Bor (List ℕ)) (a n j : ℕ) (γ : ℕ) → a ≡ start_of x.now j → n ≡ length_of x.now j
-    → Lies x (sl_part x (a + x.ref_ptr.1) a (a + n) γ) (start_of x.now j) (part_of x.now j)
-at_job x a n j γ p q = record {
+pub at_job : (x : Bor (List ℕ)) (a n j : ℕ) → a ≡ start_of x.now j → n ≡ length_of x.now j
+    → Lies x (sl_partˢ x (a + x.ref_ptr.1) a (a + n)) (start_of x.now j) (part_of x.now j)
+at_job x a n j p q = record {
   block = refl;
   place = rw (← p) (omega arith);
   content = rw (← p, ← q, add-sub_cancel_left);

@@ -89,6 +89,7 @@ impl Table {
     }
 
     // Jobs past the last that fits are counted and not stored.
+    #[tactic(auto, unfolding(crate::specs::Steps::with_job))]
     fn with_job(mut self, at: usize, release: u32, base: u8, count: u8) -> Table
         requires { self.jobs < 4096 }
         ensures { result ≡ with_job self at release base count }
@@ -108,6 +109,7 @@ impl Table {
     }
 
     // Segments past the last that fits are counted and not stored.
+    #[tactic(auto, unfolding(crate::specs::Steps::with_segment))]
     fn with_segment(mut self, shortest: u32, longest: u32, held: u16) -> Table
         requires { self.segments < 4096 }
         ensures { result ≡ with_segment self shortest longest held }

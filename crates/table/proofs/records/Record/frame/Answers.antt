@@ -1,0 +1,10 @@
+use native.Mathlib.Omega.{arith}
+use mathlib.Core.Path.{◌∙◌}
+use Rattle.table.proofs.Laws.{sized_cut, sized_has}
+use Rattle.table.proofs.records.Record.frame.Goals as goal
+
+pub returns-then-part-lt6 : goal.returns-then-part-lt6
+returns-then-part-lt6 c = sized_cut _ _ _ c.if-part-lt6.true
+
+pub returns : goal.returns
+returns c = (cc) ∙ sized_has _ _ _ (omega arith)
