@@ -8,7 +8,7 @@ use Rattle.std.proofs.Math.Bool.{true, and-false}
 use Rattle.std.proofs.lemmas.Bool.{false≢true}
 use mathlib.Core.List.{List, [], ◌∷◌, ◌++◌, map}
 use borrow.Author.Tests.{ltb-true, lt-leb}
-use Rattle.kernel.specs.Rules.{JobSet, Progress, Switch, Due, first, cutting, leaving, Run, finished, dispatched, all_finished, end_segment, had_its_time, over, fresh, reported, run_tick, switch_at, last_switch, switches, ends, is_in_frame, Within}
+use Rattle.kernel.specs.Rules.{JobSet, FIRST, CUT, Progress, Switch, Due, first, cutting, leaving, Run, finished, dispatched, all_finished, end_segment, had_its_time, over, fresh, reported, run_tick, switch_at, last_switch, switches, ends, is_in_frame, Within}
 use Rattle.kernel.specs.Laws.Tests.{split, by_cond}
 use Rattle.kernel.specs.Laws.Control.{Lawful}
 use Rattle.orders.specs.Orders.{Label, label_of, order_of}
@@ -40,10 +40,11 @@ module _ (J : JobSet) where
 
   reported_leads : (tick was d k : ℕ) → d < J.jobs → (due : Due) → Leads (reported tick was d k due)
   unfolding reported
-  reported_leads tick was d k h first rest e = ended_cons J.jobs _ (map label_of rest) h e
+  reported_leads tick was d k h first rest e = ended_cons J.jobs (record { kind = FIRST; job = d; segment = k }) (map label_of rest) h e
   reported_leads tick was d k h cutting rest e =
-      by_cond (λ (L : List Switch). Ended J.jobs (map label_of (L ++ rest))) (eqb d was) _ _ (λ _. e) (λ _. ended_cons J.jobs _ (map label_of rest) h e)
-  reported_leads tick was d k h (leaving kind at) rest e = ended_cons J.jobs _ (map label_of rest) h e
+      by_cond (λ (L : List Switch). Ended J.jobs (map label_of (L ++ rest))) (eqb d was) _ _ (λ _. e)
+      (λ _. ended_cons J.jobs (record { kind = CUT; job = d; segment = k }) (map label_of rest) h e)
+  reported_leads tick was d k h (leaving kind at) rest e = ended_cons J.jobs (record { kind = kind; job = d; segment = k }) (map label_of rest) h e
 
   switch_leads : (tick : ℕ) (r : Run) → Leads (switch_at J tick r)
   unfolding switch_at

@@ -20,15 +20,18 @@ module _ {A : Type 0} where
   all_zip P Q R f (x ∷ xs) h k = (f x h.0 k.0, all_zip P Q R f xs h.1 k.1)
 
   pub any_map : (P Q R : A → Type 0) → ((x : A) → P x → Q x → R x) → (l : List A) → All P l → Any Q l → Any R l
+  any_map P Q R f [] h q = elim q [ ]
   any_map P Q R f (x ∷ xs) h (inl q) = inl (f x h.0 q)
   any_map P Q R f (x ∷ xs) h (inr q) = inr (any_map P Q R f xs h.1 q)
 
   pub any_imp : (P Q : A → Type 0) → ((x : A) → P x → Q x) → (l : List A) → Any P l → Any Q l
+  any_imp P Q f [] h = elim h [ ]
   any_imp P Q f (x ∷ xs) (inl h) = inl (f x h)
   any_imp P Q f (x ∷ xs) (inr h) = inr (any_imp P Q f xs h)
 
   -- one of a list of which all have P
   pub one_of : (P R : A → Type 0) (X : Type 0) → ((x : A) → P x → R x → X) → (l : List A) → All P l → Any R l → X
+  one_of P R X f [] h r = elim r [ ]
   one_of P R X f (x ∷ xs) h (inl r) = f x h.0 r
   one_of P R X f (x ∷ xs) h (inr r) = one_of P R X f xs h.1 r
 
@@ -37,6 +40,7 @@ module _ {A : Type 0} where
   all_append P (x ∷ xs) m h k = (h.0, all_append P xs m h.1 k)
 
   pub any_left : (P : A → Type 0) (l m : List A) → Any P l → Any P (l ++ m)
+  any_left P [] m h = elim h [ ]
   any_left P (x ∷ xs) m (inl h) = inl h
   any_left P (x ∷ xs) m (inr h) = inr (any_left P xs m h)
 
@@ -67,6 +71,7 @@ module _ {A B : Type 0} where
   all_of_map f P (x ∷ xs) h = (h.0, all_of_map f P xs h.1)
 
   pub any_of_map : (f : A → B) (P : B → Type 0) (l : List A) → Any (λ x. P (f x)) l → Any P (map f l)
+  any_of_map f P [] h = elim h [ ]
   any_of_map f P (x ∷ xs) (inl h) = inl h
   any_of_map f P (x ∷ xs) (inr h) = inr (any_of_map f P xs h)
 

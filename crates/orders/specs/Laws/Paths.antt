@@ -116,6 +116,7 @@ module _ (J : JobSet) (stop : Forest → Bool) (P : List Label → Type 0) (K : 
 
   found : (F : Forest) (c : List Label) (l : Label) (ls : List Label) → Part J c F → Sibling l F → P (c ++ l ∷ ls) → Listed (l ∷ ls) (down_to stop F)
   unfolding down_to
+  found none c l ls p h g = elim h [ ]
   found (node x below beside) c l ls p (inr h) g =
       any_right _ (here (stop below) x.label) _ (any_right _ (map (λ ys. x.label ∷ ys) (down_to stop below)) (down_to stop beside)
       (found beside c l ls (part_beside J c x below beside p) h g))

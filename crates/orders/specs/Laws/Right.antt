@@ -36,6 +36,7 @@ module _ (J : JobSet) (c : List Label) (below : State → Box → Forest) where
 
   child_sibling : (l : List Child) (k : Label) → Any (λ x. label_for x ≡ k) l → Sibling k (hang below l)
   unfolding hang
+  child_sibling [] k h = elim h [ ]
   child_sibling (x ∷ xs) k (inl e) = inl e
   child_sibling (x ∷ xs) k (inr h) = inr (child_sibling xs k h)
 

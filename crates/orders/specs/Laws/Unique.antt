@@ -70,6 +70,7 @@ module _ (J : JobSet) (c : List Label) where
 
   -- what stands ahead of siblings is earlier than each of them
   later : (F : Forest) (x y : Info) → Part J c F → Ahead y F → Exact J c x → Sibling x.label F → Earlier y x
+  later none x y p a q h = elim h [ ]
   later (node z below beside) x y p a q (inl e) = subst (Earlier y) (exact_same z x (head_exact z below beside p) q e (head_follows z below beside p)) a.0
   later (node z below beside) x y p a q (inr h) = later beside x y (part_beside z below beside p) a.1 q h
 
