@@ -24,7 +24,7 @@ line_more words n p q = rw (add-one n) (put_then p q)
 
 -- the promise, of a text and a number of nodes
 abbrev pub Listed : (text : List ℕ) (nodes : ℕ) (before after : List ℕ) (r : ℕ) → Type 0
-Listed text nodes before after r = ((r ≡ length text) × (after ≡ sets before 0 text)) × (r ≤ 100 * (nodes + 1))
+Listed text nodes before after r = record { value : (r ≡ length text) × (after ≡ sets before 0 text); short : r ≤ 100 * (nodes + 1) }
 
 module _ {refusal nodes orders : ℕ} {words : List ℕ} (B : Bits32 refusal nodes orders words) where
   -- the places stay far from the largest number
@@ -34,7 +34,7 @@ module _ {refusal nodes orders : ℕ} {words : List ℕ} (B : Bits32 refusal nod
   -- kept by the whole text
   listed : {a b : List ℕ} {r : ℕ} → Put a 0 (listing_of refusal nodes orders words) b r
       → Listed (listing_of refusal nodes orders words) nodes a b r
-  listed f = ((omega arith, f.content), omega (arith, f.place, listing_short B))
+  listed f = record { value = (omega arith, f.content); short = omega (arith, f.place, listing_short B) }
 
   -- by the line of a refusal
   pub listed_refusal : {a b : List ℕ} {r : ℕ} → (refusal ≡ 0 → ⊥) → Put a 0 (refused_line refusal) b r

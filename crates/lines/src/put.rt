@@ -60,6 +60,7 @@ pub fn number(out: &mut [u8], at: usize, n: u32, end: u8) -> usize
 }
 
 // A word of the tree, or `-`.
+#[tactic(auto, unfolding(crate::specs::Text::shown))]
 pub fn field(out: &mut [u8], at: usize, words: &[u32], i: usize, end: u8) -> usize
     requires { at + 11 < 2 ^ 64 }
     ensures { Word out.old at (shown (get_or words.now i 0)) end out.new result }
@@ -72,6 +73,7 @@ pub fn field(out: &mut [u8], at: usize, words: &[u32], i: usize, end: u8) -> usi
 }
 
 // A word of the tree that is the number of a kind, by its name.
+#[tactic(auto, unfolding(crate::specs::Text::kind_word))]
 pub fn kind(out: &mut [u8], at: usize, words: &[u32], i: usize, end: u8) -> usize
     requires { at + 11 < 2 ^ 64 }
     ensures { Word out.old at (kind_word (get_or words.now i 0)) end out.new result }
