@@ -34,6 +34,13 @@ record_back Next (Job r p n) rest job h =
 record_back (Within k) (Segment a b m) rest segment h =
     let s = record_bytes (Segment a b m) ++ rest in
     rw (le-leb 2 (length s) (omega arith), le-leb 12 (length s) (omega arith), four_back a h.0, four_back b h.1, two_back m h.2)
+-- no other record may stand there
+record_back First (Job r p n) rest none h = elim none [ ]
+record_back First (Segment a b m) rest none h = elim none [ ]
+record_back Next (Frame f) rest none h = elim none [ ]
+record_back Next (Segment a b m) rest none h = elim none [ ]
+record_back (Within k) (Frame f) rest none h = elim none [ ]
+record_back (Within k) (Job r p n) rest none h = elim none [ ]
 
 -- its bytes are as many as its size
 pub record_size : (r : Record) → length (record_bytes r) ≡ size_of r
