@@ -63,7 +63,7 @@ pub record Going (s blank lines₀ made lines : List ℕ) (d : Draft) (at n : �
   pub same_lines : length lines ≡ length lines₀
   pub so_far : Draw
   pub drawn : Drawn s blank made lines d so_far
-  pub to_come_lem : read_lines n (lines_of (drop at s)) so_far ≡ read_lines 1 (lines_of s) start
+  pub to_come : read_lines n (lines_of (drop at s)) so_far ≡ read_lines 1 (lines_of s) start
 
 -- what one line more makes of it
 abbrev After : (s blank made lines : List ℕ) (d : Draft) (at n : ℕ) → Draw → Type 0
@@ -82,7 +82,7 @@ module _ (s blank lines₀ made lines : List ℕ) (d : Draft) (at n end : ℕ) (
     same_lines = b;
     so_far = read_line n (words_of (drop at s)) going.so_far;
     drawn = h;
-    to_come_lem = rw (e, ← next) (sym (read_more n (drop at s) going.so_far (omega (arith, ends, l, length-drop at s))) ∙ going.to_come_lem);
+    to_come = rw (e, ← next) (sym (read_more n (drop at s) going.so_far (omega (arith, ends, l, length-drop at s))) ∙ going.to_come);
   }
     where
       next : drop (suc (run is_in_line (drop at s))) (drop at s) ≡ drop (end + 1) s
@@ -91,4 +91,4 @@ module _ (s blank lines₀ made lines : List ℕ) (d : Draft) (at n end : ℕ) (
   -- the text ends with this line
   pub stops : length s ≤ end → ended (read_line n (words_of (drop at s)) going.so_far) ≡ draw_of s
   unfolding draw_of
-  stops l = ap ended (sym (read_last n (drop at s) going.so_far (omega (arith, ends, l, length-drop at s))) ∙ going.to_come_lem)
+  stops l = ap ended (sym (read_last n (drop at s) going.so_far (omega (arith, ends, l, length-drop at s))) ∙ going.to_come)

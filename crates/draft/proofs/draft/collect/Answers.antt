@@ -11,7 +11,7 @@ loop-draft-init c = record {
   same_lines = refl;
   so_far = _;
   drawn = c.new-draft.ensures.1 c.args.text.now _ _ c.requires.0 c.requires.1 c.requires.2;
-  to_come_lem = refl;
+  to_come = refl;
 }
 
 pub read-draft-requires : goal.read-draft-requires
