@@ -1,4 +1,6 @@
 // The job set, lent as 322 words to all that ask it: see specs/Words.antt. A number that it does not have is 0.
+#![tactic(auto, unfolding(crate::specs::Words::set_of, crate::specs::Words::first_of, crate::specs::Jobs::clipped))]
+
 ghost use Rattle.std.specs.Prelude.{◌≡◌, ◌+◌, ◌*◌, get_or};
 ghost use Rattle.kernel.specs.Words.{set_of, first_of};
 ghost use Rattle.kernel.specs.Code.{time_at};

@@ -6,6 +6,7 @@ ghost use Rattle.kernel.specs.Laws.Key.{key_of};
 
 use crate::jobs;
 
+#[tactic(auto, unfolding(crate::specs::Laws::Key::key_of, crate::specs::Laws::Tests::iflt))]
 fn key_of(weight: u32, i: usize) -> u16
     requires { (weight < 2000) × (i < 32) }
     ensures { result ≡ key_of weight i }
