@@ -40,6 +40,7 @@ pub struct State {
 }
 
 // The largest key. The loop goes over all 32, so that it is done many at a time.
+#[tactic(auto, unfolding(crate::specs::Jobs::largest))]
 fn top(key: &[u16; 32]) -> u16
     ensures { result ≡ largest (λ i. get_or key.now i 0) 32 }
 {
@@ -143,6 +144,7 @@ impl State {
     }
 
     // 1. The running segment ends. The job is finished, or moves to its next segment.
+    #[tactic(auto, unfolding(crate::specs::Code::end_step))]
     pub fn end_segment(mut self, set: &[u32; 322], times: &[u32], tick: u32) -> State
         requires { Loaded set.now × (self.running < 32) × (get_or self.segment self.running 0 < 255) }
         ensures { result ≡ end_step set.now times.now tick self }
@@ -190,6 +192,7 @@ impl State {
         state
     }
 
+    #[tactic(auto, unfolding(crate::specs::Code::release_step))]
     fn release_one(mut self, set: &[u32; 322]) -> State
         requires { Loaded set.now × (self.released < 32) }
         ensures { result ≡ release_step set.now self }
@@ -201,6 +204,7 @@ impl State {
     }
 
     // 3. The job that is dispatched; the number of jobs where none is ready.
+    #[tactic(auto, unfolding(crate::specs::Laws::Key::job_of, crate::specs::Laws::Tests::iflt))]
     pub fn dispatched(self, set: &[u32; 322]) -> usize
         ensures { result ≡ job_of (set_of set.now).jobs (largest (λ i. get_or self.key i 0) 32) }
     {
@@ -221,6 +225,7 @@ impl State {
     }
 
     // Another job than the running one is dispatched.
+    #[tactic(auto, unfolding(crate::specs::Code::dispatch_step))]
     pub fn dispatch(mut self, set: &[u32; 322], d: usize) -> State
         requires { Loaded set.now × (d < 32) }
         ensures { result ≡ dispatch_step set.now d self }
@@ -244,6 +249,7 @@ impl State {
     }
 
     // 4. The dispatched job runs for one tick.
+    #[tactic(auto, unfolding(crate::specs::Code::tick_step))]
     pub fn run_tick(mut self) -> State
         requires { 1 ≤ self.left }
         ensures { result ≡ tick_step self }

@@ -1,0 +1,13 @@
+use Prim.Native.Nat.{◌-◌}
+use native.Mathlib.Omega.{arith}
+use mathlib.Core.Path.{sym, ◌∙◌}
+use Rattle.kernel.specs.Words.{set_of}
+use Rattle.kernel.specs.Code.{Releasing}
+use Rattle.kernel.proofs.Release.{none_released, one_released, releases_job, step_less}
+use Rattle.kernel.proofs.state.State.release.Given as goal
+
+abbrev pub invariant-loop-state : goal.invariant-loop-state
+invariant-loop-state l = Releasing l.set l.tick l.initial.state l.state
+
+abbrev pub decreases-loop-state : goal.decreases-loop-state
+decreases-loop-state l = (set_of l.set).jobs - l.state.released

@@ -1,0 +1,14 @@
+use Prim.Native.Nat.{◌-◌, ◌≤◌}
+use native.Mathlib.Omega.{arith}
+use mathlib.Core.Path.{◌≡◌, refl}
+use mathlib.Core.Logic.{⊎_elim}
+use lib.ListN.{get_or}
+use Rattle.kernel.specs.Jobs.{largest}
+use Rattle.kernel.specs.Laws.Largest.{largest_more, largest_none, largest_all}
+use Rattle.kernel.proofs.state.top.Given as goal
+
+abbrev pub invariant-loop-i : goal.invariant-loop-i
+invariant-loop-i l = (l.i ≤ 32) × (l.best ≡ largest (λ j. get_or l.key j 0) l.i)
+
+abbrev pub decreases-loop-i : goal.decreases-loop-i
+decreases-loop-i l = 32 - l.i
