@@ -1,5 +1,5 @@
 -- The loop of `run`: its invariant with what the run was given, and the ways a turn can go.
-use Prim.Native.Nat.{ℕ, ◌+◌, ◌-◌, ◌*◌, ◌≤◌, ◌<◌}
+use Prim.Native.Nat.{ℕ, ◌+◌, ◌*◌, ◌≤◌, ◌<◌}
 use native.Mathlib.Omega.{arith}
 use mathlib.Core.Path.{◌≡◌, ◌∙◌}
 use mathlib.Core.Bool.{Bool, true, false}
@@ -10,7 +10,7 @@ use Rattle.kernel.specs.Rules.{dispatched, end_segment}
 use Rattle.kernel.specs.Jobs.{largest}
 use Rattle.kernel.specs.Log.{time_in}
 use Rattle.kernel.specs.Words.{set_of}
-use Rattle.kernel.specs.Code.{dispatch_step, tick_step, settled, Settled, NoneFrom, last_words, last_count, note_words, Runs, Logged}
+use Rattle.kernel.specs.Code.{dispatch_step, tick_step, Settled, NoneFrom, last_words, last_count, note_words, Runs, Logged}
 use Rattle.kernel.specs.Laws.Tests.{split}
 use Rattle.kernel.specs.Laws.Choice.{best_inside}
 use Rattle.kernel.specs.Laws.Key.{job_of}

@@ -1,4 +1,4 @@
-use Rattle.std.proofs.Common.{◌≡◌, ℕ, ◌+◌, ◌*◌, refl, sym, ap, ◌∙◌, subst, arith}
+use Rattle.std.proofs.Common.{◌≡◌, ℕ, ◌*◌, refl, sym, ap, ◌∙◌, subst, arith}
 use Rattle.std.proofs.lemmas.List.Edits.{sets}
 use Rattle.kernel.specs.Words.{set_of}
 use Rattle.kernel.specs.Code.{Released, settled, note_words, tick_step}
@@ -14,14 +14,14 @@ module _ (c : After-dispatched-d) where
   -- 1. the segment that has had its time has ended
   ended_first : c.if-ended.state ≡ settled c.args.set.now c.args.times.now c.loop-tick.tick c.loop-tick.state
   ended_first = elim c.if-ended.branch [
-    then-ended w ↦ settled_yes _ _ c.loop-tick.invariant.runs _ _ _ (sym c.ended-ended.ensures ∙ w.if-ended.true) (w.state-is ∙ w.end_segment-state.ensures)
+    | then-ended w ↦ settled_yes _ _ c.loop-tick.invariant.runs _ _ _ (sym c.ended-ended.ensures ∙ w.if-ended.true) (w.state-is ∙ w.end_segment-state.ensures)
     | else-ended w ↦ settled_no _ _ c.loop-tick.invariant.runs _ _ _ (sym c.ended-ended.ensures ∙ w.if-ended.false) w.state-is
   ]
 
   -- 2. the jobs of the tick are released
   then_released : Released c.args.set.now c.loop-tick.tick c.if-ended.state c.if-released.state
   then_released = elim c.if-released.branch [
-    then-released w ↦ subst (Released c.args.set.now c.loop-tick.tick c.if-ended.state) (sym w.state-is) w.release-state.ensures
+    | then-released w ↦ subst (Released c.args.set.now c.loop-tick.tick c.if-ended.state) (sym w.state-is) w.release-state.ensures
     | else-released w ↦ subst (Released c.args.set.now c.loop-tick.tick c.if-ended.state) (sym w.state-is) (record {
       some = none_released _ _ _;
       done = same_releases _ _ c.loop-tick.invariant.runs _ c.loop-tick.state c.if-ended.state ended_first ∙ sym c.releases-released.ensures ∙ w.if-released.false;
@@ -91,7 +91,7 @@ pub loop-tick-preserved : goal.loop-tick-preserved
 loop-tick-preserved c =
     let d = (goal.at.loop-tick-preserved c).After-dispatched-d in
     elim c.if-d-n.branch [
-      then-d-n+else-none_from w ↦
+      | then-d-n+else-none_from w ↦
           loop_same (idling (turn d) (w.if-d-n.true ∙ c.jobs-n.ensures) w.none_from.result w.none_from.ensures w.if-none_from.false) w.log-is w.state-is w.count-is
       | else-d-n+then-d-state w ↦
           loop_same (runs_on (turn d) (some d w.if-d-n.false) w.if-d-state.true).1 w.log-is (w.state-is ∙ w.run_tick-state.ensures) w.count-is

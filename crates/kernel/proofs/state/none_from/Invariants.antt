@@ -1,8 +1,6 @@
 use Prim.Native.Nat.{ℕ, ◌-◌, ◌≤◌, ◌<◌}
-use native.Mathlib.Omega.{arith}
-use mathlib.Core.Path.{◌≡◌, sym, ap, ◌∙◌}
+use mathlib.Core.Path.{◌≡◌}
 use Rattle.kernel.specs.Words.{set_of}
-use Rattle.kernel.specs.Laws.Tests.{split}
 use Rattle.kernel.proofs.state.none_from.Given as goal
 
 abbrev pub invariant-loop-i : goal.invariant-loop-i

@@ -1,10 +1,7 @@
 use Prim.Native.Nat.{◌-◌, ◌≤◌}
-use native.Mathlib.Omega.{arith}
-use mathlib.Core.Path.{◌≡◌, refl}
-use mathlib.Core.Logic.{⊎_elim}
+use mathlib.Core.Path.{◌≡◌}
 use lib.ListN.{get_or}
 use Rattle.kernel.specs.Jobs.{largest}
-use Rattle.kernel.specs.Laws.Largest.{largest_more, largest_none, largest_all}
 use Rattle.kernel.proofs.state.top.Given as goal
 
 abbrev pub invariant-loop-i : goal.invariant-loop-i

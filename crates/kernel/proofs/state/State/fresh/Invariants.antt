@@ -1,10 +1,7 @@
 use Prim.Native.Nat.{ℕ, ◌<◌, ◌-◌, ◌≤◌}
-use native.Mathlib.Omega.{arith}
-use mathlib.Core.Path.{◌≡◌, refl}
-use lib.ListN.{length-set, get_or, length}
-use Rattle.kernel.specs.Laws.Stores.{filled_more}
+use mathlib.Core.Path.{◌≡◌}
+use lib.ListN.{get_or, length}
 use Rattle.kernel.specs.Code.{time_at}
-use Rattle.kernel.proofs.Arrays.{zeros}
 use Rattle.kernel.proofs.state.State.fresh.Given as goal
 
 abbrev pub invariant-loop-i : goal.invariant-loop-i

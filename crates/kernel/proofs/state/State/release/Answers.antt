@@ -1,5 +1,4 @@
-use Rattle.std.proofs.Common.{◌-◌, sym, ◌∙◌, arith}
-use Rattle.kernel.specs.Words.{set_of}
+use Rattle.std.proofs.Common.{sym, ◌∙◌}
 use Rattle.kernel.proofs.Release.{none_released, one_released, releases_job, step_less}
 use Rattle.kernel.proofs.state.State.release.Goals as goal
 

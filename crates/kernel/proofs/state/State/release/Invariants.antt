@@ -1,9 +1,6 @@
 use Prim.Native.Nat.{◌-◌}
-use native.Mathlib.Omega.{arith}
-use mathlib.Core.Path.{sym, ◌∙◌}
 use Rattle.kernel.specs.Words.{set_of}
 use Rattle.kernel.specs.Code.{Releasing}
-use Rattle.kernel.proofs.Release.{none_released, one_released, releases_job, step_less}
 use Rattle.kernel.proofs.state.State.release.Given as goal
 
 abbrev pub invariant-loop-state : goal.invariant-loop-state
