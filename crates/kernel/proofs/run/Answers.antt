@@ -1,4 +1,4 @@
-use Rattle.std.proofs.Common.{◌≡◌, ℕ, ◌*◌, refl, sym, ap, ◌∙◌, subst, arith}
+use Rattle.std.proofs.Common.{◌≡◌, ℕ, ◌*◌, refl, sym, ap, ◌∙◌, subst, arith, rules}
 use Rattle.std.proofs.lemmas.List.Edits.{sets}
 use Rattle.kernel.specs.Words.{set_of}
 use Rattle.kernel.specs.Code.{Released, settled, note_words, tick_step}
@@ -14,8 +14,8 @@ module _ (c : After-dispatched-d) where
   -- 1. the segment that has had its time has ended
   ended_first : c.if-ended.state ≡ settled c.args.set.now c.args.times.now c.loop-tick.tick c.loop-tick.state
   ended_first = elim c.if-ended.branch [
-    | then-ended w ↦ settled_yes _ _ c.loop-tick.invariant.runs _ _ _ (sym c.ended-ended.ensures ∙ w.if-ended.true) (w.state-is ∙ w.end_segment-state.ensures)
-    | else-ended w ↦ settled_no _ _ c.loop-tick.invariant.runs _ _ _ (sym c.ended-ended.ensures ∙ w.if-ended.false) w.state-is
+    | then-ended w ↦ settled_yes _ _ c.loop-tick.invariant.runs _ _ _ (sym c.ended-ended.ensures ∙ search rules) (w.state-is ∙ w.end_segment-state.ensures)
+    | else-ended w ↦ settled_no _ _ c.loop-tick.invariant.runs _ _ _ (sym c.ended-ended.ensures ∙ search rules) w.state-is
   ]
 
   -- 2. the jobs of the tick are released
@@ -48,7 +48,7 @@ loop-tick-init c = record { runs = c.requires; going = start _ _ c.requires _ _ 
 pub end_segment-state-requires : goal.end_segment-state-requires
 end_segment-state-requires c =
     let runs = c.loop-tick.invariant.runs in
-    let inside = ended_job _ c.loop-tick.state (sym c.ended-ended.ensures ∙ c.if-ended.true) in
+    let inside = ended_job _ c.loop-tick.state (sym c.ended-ended.ensures ∙ search rules) in
     (runs.loaded, omega (arith, inside, runs.loaded.few_jobs), few_segments _ _ runs _ _ _ _ _ c.loop-tick.invariant.going inside)
 
 pub last-requires : goal.last-requires
