@@ -1,10 +1,8 @@
 -- Stores into an array.
-use Prim.Native.Nat.{ℕ, suc, ◌+◌, ◌≤◌}
-use native.Mathlib.Omega.{arith}
-use mathlib.Core.Path.{◌≡◌, sym, ◌∙◌}
-use mathlib.Core.List.{List, [], ◌∷◌}
-use lib.ListN.{length, get_or, set, replicate, get_or-replicate, length-replicate, get_or-eq_default}
-use lib.Seq.{set_out, sets}
+use Rattle.std.proofs.Common.{ℕ, suc, ◌+◌, ◌≤◌, arith, ◌≡◌, sym, ◌∙◌, List, [], ◌∷◌, length, get_or, set, replicate}
+use Rattle.std.proofs.Math.ListN.{get_or-replicate, length-replicate, get_or-eq_default}
+use Rattle.std.proofs.Math.Seq.{set_out}
+use Rattle.std.proofs.lemmas.List.Edits.{sets}
 use Rattle.kernel.specs.Laws.Tests.{split}
 
 -- a store past the end changes nothing

@@ -1,15 +1,7 @@
 -- The loop of `run`: what is written so far, with the switches that are still to come, is the whole log.
-use Prim.Native.Nat.{ℕ, zero, suc, ◌+◌, ◌-◌, ◌*◌, ◌≤◌, ◌<◌}
-use native.Mathlib.Omega.{arith}
-use native.Mathlib.Numerals.{add-one}
-use mathlib.Core.Path.{◌≡◌, refl, sym, ◌∙◌, ap}
-use mathlib.Core.Logic.{◌≢◌}
-use mathlib.Core.Bool.{Bool, true, false, cond, ◌&&◌}
-use mathlib.Core.List.{List, [], ◌∷◌, ◌++◌}
-use lib.ListN.{length, get_or, set}
-use lib.Seq.{sets, get_or-set_other}
-use lib.Dec.{ltb, eqb}
-use borrow.Author.Tests.{eq-eqb, ltb-true, ltb-false, eqb-true, eqb-false}
+use Rattle.std.proofs.Common.{ℕ, zero, suc, ◌+◌, ◌-◌, ◌*◌, ◌≤◌, ◌<◌, arith, add-one, ◌≡◌, refl, sym, ◌∙◌, ap, ◌≢◌, Bool, true, false, cond, ◌&&◌, List, [], ◌∷◌, ◌++◌, length, get_or, set, get_or-set_other, ltb, eqb, eq-eqb, ltb-true, ltb-false, eqb-true}
+use Rattle.std.proofs.lemmas.Bool.{eqb-false}
+use Rattle.std.proofs.lemmas.List.Edits.{sets}
 use Rattle.kernel.specs.Rules.{JobSet, Switch, Run, reported, dispatched, run_tick, switch_at, last_switch, over, fresh, end_segment, switches, run_of}
 use Rattle.kernel.specs.Jobs.{largest}
 use Rattle.kernel.specs.Log.{switch_words, log_words, time_in}

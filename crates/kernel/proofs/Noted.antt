@@ -1,12 +1,6 @@
 -- The words that the code notes are those of the switches that the rules report.
-use Prim.Native.Nat.{ℕ, suc, ◌+◌, ◌<◌}
-use native.Mathlib.Omega.{arith}
-use mathlib.Core.Path.{◌≡◌, refl}
-use mathlib.Core.Logic.{◌≢◌}
-use mathlib.Core.List.{List, [], ◌∷◌, ◌++◌}
-use lib.ListN.{length, set}
-use lib.Seq.{sets}
-use borrow.Author.Tests.{lt-ltb, le-ltb, ne_eqb}
+use Rattle.std.proofs.Common.{ℕ, suc, ◌+◌, ◌<◌, arith, ◌≡◌, refl, ◌≢◌, List, [], ◌∷◌, ◌++◌, length, set, lt-ltb, le-ltb, ne_eqb}
+use Rattle.std.proofs.lemmas.List.Edits.{sets}
 use Rattle.kernel.specs.Rules.{JobSet, Switch, FIRST, CUT, reported, last_switch}
 use Rattle.kernel.specs.Log.{switch_words, log_words}
 use Rattle.kernel.specs.Code.{kind_of, due_of, last_words, last_count, note_words}

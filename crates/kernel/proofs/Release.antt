@@ -1,11 +1,5 @@
 -- The loop that releases the jobs of a tick.
-use Prim.Native.Nat.{ℕ, suc, ◌-◌, ◌<◌}
-use native.Mathlib.Omega.{arith}
-use mathlib.Core.Path.{◌≡◌, refl, sym, ◌∙◌, ap}
-use mathlib.Core.Bool.{true}
-use mathlib.Core.List.{List}
-use lib.Dec.{ltb}
-use borrow.Author.Tests.{ltb-true}
+use Rattle.std.proofs.Common.{ℕ, suc, ◌-◌, ◌<◌, arith, ◌≡◌, refl, sym, ◌∙◌, ap, true, List, ltb, ltb-true}
 use Rattle.kernel.specs.Words.{set_of}
 use Rattle.kernel.specs.Code.{release_step, ended, releases, released_after, Releasing}
 use Rattle.kernel.specs.Laws.Tests.{both_true, below}

@@ -1,11 +1,7 @@
 -- The loop of `run`: its invariant with what the run was given, and the ways a turn can go.
-use Prim.Native.Nat.{ℕ, ◌+◌, ◌*◌, ◌≤◌, ◌<◌}
-use native.Mathlib.Omega.{arith}
-use mathlib.Core.Path.{◌≡◌, ◌∙◌}
-use mathlib.Core.Bool.{Bool, true, false}
-use mathlib.Core.List.{List}
-use lib.ListN.{length, get_or}
-use lib.Seq.{sets, length-sets}
+use Rattle.std.proofs.Common.{ℕ, ◌+◌, ◌*◌, ◌≤◌, ◌<◌, arith, ◌≡◌, ◌∙◌, Bool, true, false, List, length, get_or}
+use Rattle.std.proofs.Math.Seq.{length-sets}
+use Rattle.std.proofs.lemmas.List.Edits.{sets}
 use Rattle.kernel.specs.Rules.{dispatched, end_segment}
 use Rattle.kernel.specs.Jobs.{largest}
 use Rattle.kernel.specs.Log.{time_in}

@@ -1,5 +1,4 @@
-use Prim.Native.Nat.{ℕ, ◌-◌, ◌≤◌, ◌<◌}
-use mathlib.Core.Path.{◌≡◌}
+use Rattle.std.proofs.Common.{ℕ, ◌-◌, ◌≤◌, ◌<◌, ◌≡◌}
 use Rattle.kernel.specs.Words.{set_of}
 use Rattle.kernel.proofs.state.none_from.Given as goal
 

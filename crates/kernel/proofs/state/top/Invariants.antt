@@ -1,6 +1,4 @@
-use Prim.Native.Nat.{◌-◌, ◌≤◌}
-use mathlib.Core.Path.{◌≡◌}
-use lib.ListN.{get_or}
+use Rattle.std.proofs.Common.{◌-◌, ◌≤◌, ◌≡◌, get_or}
 use Rattle.kernel.specs.Jobs.{largest}
 use Rattle.kernel.proofs.state.top.Given as goal
 

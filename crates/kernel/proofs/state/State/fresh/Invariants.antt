@@ -1,6 +1,4 @@
-use Prim.Native.Nat.{ℕ, ◌<◌, ◌-◌, ◌≤◌}
-use mathlib.Core.Path.{◌≡◌}
-use lib.ListN.{get_or, length}
+use Rattle.std.proofs.Common.{ℕ, ◌<◌, ◌-◌, ◌≤◌, ◌≡◌, get_or, length}
 use Rattle.kernel.specs.Code.{time_at}
 use Rattle.kernel.proofs.state.State.fresh.Given as goal
 

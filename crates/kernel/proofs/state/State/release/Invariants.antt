@@ -1,4 +1,4 @@
-use Prim.Native.Nat.{◌-◌}
+use Rattle.std.proofs.Common.{◌-◌}
 use Rattle.kernel.specs.Words.{set_of}
 use Rattle.kernel.specs.Code.{Releasing}
 use Rattle.kernel.proofs.state.State.release.Given as goal
