@@ -1,4 +1,6 @@
 // The key of a job: its weight and its number in one, so that the job to dispatch is the one with the largest key. A finished job has key 0.
+#![tactic(auto, using(crate::specs::Laws::Small::small_at), unfolding(crate::specs::Laws::Key::key_of, crate::specs::Laws::Tests::iflt))]
+
 ghost use Rattle.std.specs.Prelude.{◌≡◌, ◌<◌};
 ghost use Rattle.kernel.specs.Words.{set_of, Loaded};
 ghost use Rattle.kernel.specs.Code.{weight_at};
@@ -6,7 +8,6 @@ ghost use Rattle.kernel.specs.Laws.Key.{key_of};
 
 use crate::jobs;
 
-#[tactic(auto, unfolding(crate::specs::Laws::Key::key_of, crate::specs::Laws::Tests::iflt))]
 fn key_of(weight: u32, i: usize) -> u16
     requires { (weight < 2000) × (i < 32) }
     ensures { result ≡ key_of weight i }
