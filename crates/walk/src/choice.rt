@@ -14,6 +14,7 @@ fn larger(x: u32, y: u32) -> u32
 }
 
 // How many jobs are released by tick t; the first `out` are known to be.
+#[tactic(auto, using(crate::specs::Laws::Keyed::released_by))]
 pub fn released(set: &[u32; 322], out: usize, t: u32) -> usize
     requires { Out set.now t out }
     ensures { OutBy set.now t result }
@@ -46,6 +47,7 @@ pub fn first_unfinished(set: &[u32; 322], state: &[u32; 128], done: usize) -> us
 }
 
 // The largest key of the jobs below `out`; none below `first` has one.
+#[tactic(auto, using(kernel::specs::Laws::Largest::largest_le, kernel::specs::Laws::Largest::largest_more, kernel::specs::Laws::Largest::largest_all))]
 fn top(state: &[u32; 128], first: usize, out: usize) -> u32
     requires { TopAsk state.now first out }
     ensures { result ≡ largest (λ i. get_or state.now (4 * i) 0) out }
@@ -60,6 +62,7 @@ fn top(state: &[u32; 128], first: usize, out: usize) -> u32
 }
 
 // How many jobs are released at the next dispatch, where `out` are at the leaving: the processor may idle until the first unfinished job is released.
+#[tactic(auto, using(crate::specs::Laws::Keyed::out_first, crate::specs::Laws::Keyed::reaches_now, crate::specs::Laws::Keyed::reaches_later))]
 fn reached(set: &[u32; 322], first: usize, out: usize) -> usize
     requires { ReachAsk set.now first out }
     ensures { Reaches set.now first out result }
@@ -71,6 +74,7 @@ fn reached(set: &[u32; 322], first: usize, out: usize) -> usize
 }
 
 // The job that is dispatched next after a leaving by which `out` jobs are released; the number of jobs where all are finished.
+#[tactic(auto, using(crate::specs::Laws::Keyed::follows, crate::specs::Laws::Keyed::follows_none))]
 pub fn after(set: &[u32; 322], state: &[u32; 128], first: usize, out: usize) -> u32
     requires { NextAsk set.now state.now first out }
     ensures { Follows set.now state.now out result }
@@ -83,6 +87,7 @@ pub fn after(set: &[u32; 322], state: &[u32; 128], first: usize, out: usize) -> 
 }
 
 // The weight of job i: what its key holds above its number.
+#[tactic(auto, using(crate::specs::Laws::Keyed::weighs, crate::specs::Laws::Keyed::weighs_none))]
 pub fn weight(set: &[u32; 322], state: &[u32; 128], i: usize) -> u32
     requires { Loaded set.now }
     ensures { Weighs set.now state.now i result }
@@ -94,6 +99,7 @@ pub fn weight(set: &[u32; 322], state: &[u32; 128], i: usize) -> u32
 }
 
 // The first release before e of a job that is not among the first `out` and whose weight is above w; else e.
+#[tactic(auto, using(crate::specs::Laws::Keyed::aboves_none, crate::specs::Laws::Keyed::aboves_some))]
 pub fn above(set: &[u32; 322], state: &[u32; 128], out: usize, w: u32, e: u32) -> u32
     requires { Loaded set.now }
     ensures { Aboves set.now state.now out w e result }

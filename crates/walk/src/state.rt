@@ -26,6 +26,7 @@ pub fn of_job(state: &[u32; 128], i: usize) -> Standing
     }
 }
 
+#[tactic(auto, unfolding(crate::specs::State::put_at))]
 pub fn put(state: &mut [u32; 128], i: usize, x: Standing)
     requires { i < 32 }
     ensures { state.new ≡ put_at state.old i x }

@@ -26,6 +26,7 @@ fn later(x: u32, y: u32) -> u32
 }
 
 // STEP where job i has a segment k, else END.
+#[tactic(auto, unfolding(kernel::specs::Laws::Tests::iflt))]
 pub fn leave_kind(set: &[u32; 322], i: usize, k: u32) -> u32
     ensures { result ≡ kind_number (leave_kind_for (set_of set.now) i k) }
 {
@@ -58,6 +59,7 @@ fn to_job(set: &[u32; 322], kind: u32, first: u32, last: u32, d: u32) -> Switch
 }
 
 // The switch of the ticks of leaving from t to `latest` at most that lead to one job.
+#[tactic(auto, using(crate::specs::Laws::Spanned::some_end, crate::specs::Laws::Spanned::spanned))]
 pub fn span(
     set: &[u32; 322],
     state: &[u32; 128],
@@ -78,6 +80,7 @@ pub fn span(
 }
 
 // The switch by a cut at tick t.
+#[tactic(auto, using(crate::specs::Laws::Spanned::cuts))]
 pub fn cut(set: &[u32; 322], state: &[u32; 128], first: usize, out: usize, t: u32) -> Switch
     requires { SwitchAsk set.now state.now first out t }
     ensures { Cuts set.now state.now t result }
@@ -87,6 +90,7 @@ pub fn cut(set: &[u32; 322], state: &[u32; 128], first: usize, out: usize, t: u3
 }
 
 // The first dispatch, which is a switch at its own tick.
+#[tactic(auto, using(crate::specs::Laws::Spanned::begins))]
 pub fn first(set: &[u32; 322], state: &[u32; 128], first: usize) -> Switch
     requires { First set.now state.now first }
     ensures { Begins set.now state.now result }

@@ -1,0 +1,14 @@
+use Prim.Native.Nat.{ℕ, ◌+◌, ◌-◌, ◌*◌, ◌/◌, ◌≤◌, ◌<◌}
+use native.Mathlib.Omega.{arith}
+use mathlib.Core.Path.{◌≡◌}
+use lib.ListN.{get_or}
+use Rattle.kernel.specs.Words.{set_of}
+use Rattle.kernel.specs.Laws.Tests.{below}
+use Rattle.walk.specs.Laws.Keyed.{NoneAbove, aboves_none, aboves_some}
+use Rattle.walk.proofs.choice.above.Given as goal
+
+abbrev pub invariant-loop-i : goal.invariant-loop-i
+invariant-loop-i l = (l.n ≡ (set_of l.set).jobs) × (l.out ≤ l.i) × NoneAbove l.state l.out l.w l.i
+
+abbrev pub decreases-loop-i : goal.decreases-loop-i
+decreases-loop-i l = l.n - l.i

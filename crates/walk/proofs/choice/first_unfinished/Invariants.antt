@@ -1,0 +1,14 @@
+use Prim.Native.Nat.{ℕ, ◌+◌, ◌-◌, ◌*◌, ◌≤◌, ◌<◌}
+use native.Mathlib.Omega.{arith}
+use mathlib.Core.Path.{◌≡◌}
+use lib.ListN.{get_or}
+use Rattle.kernel.specs.Laws.Tests.{below}
+use Rattle.kernel.specs.Words.{set_of}
+use Rattle.walk.specs.Choice.{NoKeys}
+use Rattle.walk.proofs.choice.first_unfinished.Given as goal
+
+abbrev pub invariant-loop-i : goal.invariant-loop-i
+invariant-loop-i l = (l.i ≤ l.n) × (l.n ≡ (set_of l.set).jobs) × NoKeys l.state l.i
+
+abbrev pub decreases-loop-i : goal.decreases-loop-i
+decreases-loop-i l = l.n - l.i

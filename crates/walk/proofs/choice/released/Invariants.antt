@@ -1,0 +1,13 @@
+use Prim.Native.Nat.{ℕ, ◌+◌, ◌-◌, ◌≤◌, ◌<◌}
+use native.Mathlib.Omega.{arith}
+use mathlib.Core.Path.{◌≡◌}
+use Rattle.kernel.specs.Laws.Tests.{below}
+use Rattle.kernel.specs.Words.{set_of}
+use Rattle.walk.specs.Laws.Keyed.{released_by}
+use Rattle.walk.proofs.choice.released.Given as goal
+
+abbrev pub invariant-loop-i : goal.invariant-loop-i
+invariant-loop-i l = (l.i ≤ l.n) × (l.n ≡ (set_of l.set).jobs) × ((j : ℕ) → j < l.i → (set_of l.set).release j ≤ l.t)
+
+abbrev pub decreases-loop-i : goal.decreases-loop-i
+decreases-loop-i l = l.n - l.i
