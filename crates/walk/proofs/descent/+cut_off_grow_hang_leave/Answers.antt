@@ -2,7 +2,7 @@ use borrow.Author.Rules.{rules}
 use Rattle.std.proofs.Common.{arith, refl}
 use Rattle.walk.proofs.Hanging.{hung_past, hung_last, hang_grows, hung_job}
 use Rattle.walk.proofs.Growing.{grown_none, early_fits, grow_leaves, grown_left, grow_cuts, grown_cut}
-use Rattle.walk.proofs.Turn.{turn_last, turn_less, turn_hang, turn_more}
+use Rattle.walk.proofs.Turn.{turn_span, turn_last, turn_less, turn_hang, turn_more}
 use Rattle.walk.proofs.Leaving.{segment_small, leave_ended, leave_starts, left_all}
 use Rattle.walk.proofs.Cutting.{cut_switch, cut_hangs, cut_all}
 use Rattle.walk.proofs.descent.+cut_off_grow_hang_leave.Goals as goal
@@ -51,6 +51,9 @@ leave-first_unfinished-next-requires t c = search (rules, leave_ended)
 
 pub leave-loop-t-init : goal.leave-loop-t-init
 leave-loop-t-init t c = search (rules, leave_starts)
+
+pub leave-span-x-requires : goal.leave-span-x-requires
+leave-span-x-requires t c = search (rules, turn_span)
 
 pub leave-hang-count-requires : goal.leave-hang-count-requires
 leave-hang-count-requires t c = search (rules, turn_hang)
