@@ -1,9 +1,5 @@
 -- The path through `cut_off`: the running job is cut, and put back.
-use Prim.Native.Nat.{ℕ, ◌-◌, ◌*◌, ◌≤◌, ◌<◌, max}
-use native.Mathlib.Omega.{arith}
-use mathlib.Core.Path.{◌≡◌, ap}
-use mathlib.Core.List.{List, [], ◌∷◌}
-use lib.ListN.{get_or}
+use Rattle.std.proofs.Common.{ℕ, ◌-◌, ◌*◌, ◌≤◌, ◌<◌, max, arith, ◌≡◌, ap, List, [], ◌∷◌, get_or}
 use Rattle.kernel.specs.Rules.{JobSet, CUT}
 use Rattle.kernel.specs.Words.{set_of}
 use Rattle.kernel.specs.Laws.Tests.{if-lt}

@@ -1,8 +1,5 @@
 -- The paths through `grow`: no switch may follow; the running job leaves its segment; or it is cut besides.
-use Prim.Native.Nat.{ℕ, ◌+◌, ◌-◌, ◌≤◌, ◌<◌}
-use native.Mathlib.Omega.{arith}
-use mathlib.Core.Path.{◌≡◌, refl, ap, ◌∙◌}
-use mathlib.Core.List.{List, [], append-nil}
+use Rattle.std.proofs.Common.{ℕ, ◌+◌, ◌-◌, ◌≤◌, ◌<◌, arith, ◌≡◌, refl, ap, ◌∙◌, List, [], append-nil}
 use Rattle.kernel.specs.Words.{set_of}
 use Rattle.kernel.specs.Laws.Tests.{if-ge}
 use Rattle.kernel.specs.Laws.Control.{weight}

@@ -1,10 +1,6 @@
 -- The paths through `hang`: the node is left out, ends a run, or has something below it.
-use Prim.Native.Nat.{ℕ, ◌+◌, ◌*◌, ◌≤◌, ◌<◌}
-use native.Mathlib.Omega.{arith}
-use mathlib.Core.Path.{◌≡◌, refl, ap, ◌∙◌}
-use mathlib.Core.List.{List}
-use lib.Seq.{sets}
-use borrow.Author.Tests.{lt-ltb, le-ltb}
+use Rattle.std.proofs.Common.{ℕ, ◌+◌, ◌*◌, ◌≤◌, ◌<◌, arith, ◌≡◌, refl, ap, ◌∙◌, List, lt-ltb, le-ltb}
+use Rattle.std.proofs.lemmas.List.Edits.{sets}
 use Rattle.kernel.specs.Rules.{Kind}
 use Rattle.kernel.specs.Log.{nothing}
 use Rattle.kernel.specs.Words.{set_of}
@@ -47,10 +43,7 @@ module _ {w s : List ℕ} {x : Switch} {c : Count} {depth cap first out at : ℕ
   pub hung_past : {parent : ℕ} {b : List ℕ} → cap ≤ at → Hung w s s x parent depth cap b c b c
   hung_past h = record { kept = refl; wrote = λ kind κ least most p T. rw (hang_one (grow (set_of w) depth)) (wrote_past A.room (omega arith)) }
 
-  -- one node more can be counted
-  pub hang_few : at < cap → Few c
-  hang_few h = record { nodes = omega (arith, A.room.most); orders = omega (arith, A.room.orders, A.room.most) }
-
+  -- there is room for one node more
   more_room : (orders : ℕ) → at < cap → orders ≤ c.orders + 1 → Room (record { nodes = c.nodes + 1; orders = orders }) cap
   more_room orders h l = record { nodes = omega arith; orders = omega (arith, A.room.orders); most = A.room.most }
 

@@ -1,8 +1,5 @@
 -- The path through `leave`: from the running job to the loop over the spans, and back.
-use Prim.Native.Nat.{ℕ, suc, ◌+◌, ◌-◌, ◌≤◌, ◌<◌}
-use native.Mathlib.Omega.{arith}
-use mathlib.Core.Path.{◌≡◌, ap, ◌∙◌}
-use mathlib.Core.List.{List}
+use Rattle.std.proofs.Common.{ℕ, suc, ◌+◌, ◌-◌, ◌≤◌, ◌<◌, arith, ◌≡◌, ap, ◌∙◌, List}
 use Rattle.kernel.specs.Log.{kind_number}
 use Rattle.kernel.specs.Words.{set_of}
 use Rattle.kernel.specs.Laws.Sums.{one_of_sum}

@@ -1,4 +1,3 @@
-pub mod Rows
 pub mod Hanging
 pub mod Growing
 pub mod Turn

@@ -1,9 +1,5 @@
 -- The loop of `leave` over the spans of a leaving.
-use Prim.Native.Nat.{ℕ, suc, ◌+◌, ◌-◌, ◌≤◌, ◌<◌}
-use native.Mathlib.Omega.{arith}
-use mathlib.Core.Path.{◌≡◌, refl, ap, ◌∙◌}
-use mathlib.Core.List.{List, [], ◌∷◌, map}
-use lib.ListN.{length}
+use Rattle.std.proofs.Common.{ℕ, suc, ◌+◌, ◌-◌, ◌≤◌, ◌<◌, arith, ◌≡◌, refl, ap, ◌∙◌, List, [], ◌∷◌, map, length}
 use Rattle.kernel.specs.Rules.{JobSet, Kind}
 use Rattle.kernel.specs.Words.{set_of, Loaded}
 use Rattle.kernel.specs.Laws.Control.{Lawful, Control, weight, after}

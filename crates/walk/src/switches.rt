@@ -59,7 +59,6 @@ fn to_job(set: &[u32; 322], kind: u32, first: u32, last: u32, d: u32) -> Switch
 }
 
 // The switch of the ticks of leaving from t to `latest` at most that lead to one job.
-#[tactic(auto, using(crate::specs::Laws::Spanned::some_end, crate::specs::Laws::Spanned::spanned))]
 pub fn span(
     set: &[u32; 322],
     state: &[u32; 128],

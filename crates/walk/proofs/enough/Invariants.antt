@@ -1,6 +1,4 @@
-use Prim.Native.Nat.{◌+◌, ◌-◌, ◌≤◌}
-use native.Mathlib.Omega.{arith}
-use mathlib.Core.Path.{◌≡◌, refl}
+use Rattle.std.proofs.Common.{◌+◌, ◌-◌, ◌≤◌, arith, ◌≡◌, refl}
 use Rattle.kernel.specs.Laws.Sums.{sum_none, sum_more, sum_all, sum_rises}
 use Rattle.kernel.specs.Jobs.{sum}
 use Rattle.kernel.specs.Words.{set_of}

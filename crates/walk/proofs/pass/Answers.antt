@@ -1,4 +1,4 @@
-use borrow.Author.Rules.{rules}
+use Rattle.std.proofs.Common.{rules}
 use Rattle.walk.specs.Count.{count_of}
 use Rattle.walk.specs.Laws.Root.{root_passed}
 use Rattle.walk.proofs.pass.Goals as goal

@@ -1,9 +1,6 @@
 -- In the walk's tree the nodes without a job are those with nothing below them: to count the ones is to count the orders.
-use Prim.Native.Nat.{ℕ, zero, suc, ◌+◌, ◌≤◌, ◌<◌}
-use native.Mathlib.Omega.{arith}
+use Rattle.std.proofs.Common.{ℕ, zero, suc, ◌+◌, ◌≤◌, ◌<◌, arith, refl, List, [], ◌∷◌}
 use Rattle.std.specs.Prelude.{◌≡◌}
-use Rattle.std.proofs.Math.Path.{refl}
-use mathlib.Core.List.{List, [], ◌∷◌}
 use Rattle.kernel.specs.Rules.{JobSet}
 use Rattle.kernel.specs.Laws.Tests.{split, if-lt, if-ge}
 use Rattle.kernel.specs.Laws.Sums.{one_of_sum}

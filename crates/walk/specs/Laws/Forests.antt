@@ -1,10 +1,6 @@
 -- What grows below a box, and siblings in a row: how many nodes, which words, and how many ends of runs two rows have together.
-use Prim.Native.Nat.{ℕ, zero, suc, ◌+◌, ◌-◌, ◌≤◌, ◌<◌}
-use native.Mathlib.Omega.{arith}
+use Rattle.std.proofs.Common.{ℕ, zero, suc, ◌+◌, ◌-◌, ◌≤◌, ◌<◌, arith, refl, sym, ap, ◌∙◌, List, [], ◌∷◌, ◌++◌, append_assoc}
 use Rattle.std.specs.Prelude.{◌≡◌}
-use Rattle.std.proofs.Math.Path.{refl, sym, ap}
-use Rattle.std.proofs.Common.{◌∙◌}
-use mathlib.Core.List.{List, [], ◌∷◌, ◌++◌, append_assoc}
 use Rattle.kernel.specs.Rules.{JobSet}
 use Rattle.kernel.specs.Laws.Tests.{if-lt, if-ge}
 use Rattle.kernel.specs.Laws.Step.{State}

@@ -1,9 +1,7 @@
 -- What the keys in the words tell of the weights, and so of the choices of the theory.
-use Prim.Native.Nat.{ℕ, ◌-◌, ◌*◌, ◌/◌, ◌%◌, ◌≤◌, ◌<◌, max}
-use Rattle.std.proofs.Common.{arith, ◌∙◌}
+use Rattle.std.proofs.Common.{ℕ, ◌-◌, ◌*◌, ◌/◌, ◌%◌, ◌≤◌, ◌<◌, max, arith, ◌∙◌, sym, ap}
 use Rattle.std.proofs.Math.Nat.{mul-add-div, div-eq_of_lt}
 use Rattle.std.specs.Prelude.{◌≡◌, refl, List, get_or}
-use Rattle.std.proofs.Math.Path.{sym, ap}
 use Rattle.kernel.specs.Rules.{JobSet}
 use Rattle.kernel.specs.Jobs.{largest}
 use Rattle.kernel.specs.Words.{set_of, Loaded}

@@ -1,9 +1,7 @@
 -- The moves of a walk on its words: a job leaves its segment, is dispatched, is cut. The words still stand for the control and the limits.
 use Rattle.std.specs.Prelude.{ℕ, suc, ◌+◌, ◌≤◌, ◌<◌, ◌≡◌, ◌≢◌, Bool, List, length}
-use native.Mathlib.Omega.{arith}
+use Rattle.std.proofs.Common.{arith, refl, sym, ap, ◌∙◌, le-ltb}
 use Rattle.std.proofs.Math.Decide.{ℕ_discrete}
-use Rattle.std.proofs.Math.Path.{refl, sym, ap}
-use Rattle.std.proofs.Common.{◌∙◌, le-ltb}
 use Rattle.std.proofs.Math.Bool.{true}
 use Rattle.kernel.specs.Rules.{JobSet}
 use Rattle.kernel.specs.Code.{weight_at}

@@ -1,8 +1,6 @@
 -- The root of the walk: the words in which no job has begun, and the first dispatch.
-use Prim.Native.Nat.{ℕ, ◌≤◌, ◌<◌, max}
-use native.Mathlib.Omega.{arith}
+use Rattle.std.proofs.Common.{ℕ, ◌≤◌, ◌<◌, max, arith, sym, ap, ◌∙◌, subst}
 use Rattle.std.specs.Prelude.{◌≡◌, refl, List}
-use Rattle.std.proofs.Common.{sym, ap, ◌∙◌, subst}
 use Rattle.kernel.specs.Rules.{JobSet, FIRST}
 use Rattle.kernel.specs.Log.{nothing}
 use Rattle.kernel.specs.Words.{set_of, Loaded}

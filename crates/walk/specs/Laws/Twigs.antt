@@ -1,8 +1,6 @@
 -- The switches that a walk goes down: what the words stand for before a switch by leaving or by a cut, and after its dispatch.
 use Rattle.std.specs.Prelude.{ℕ, ◌+◌, ◌-◌, ◌≤◌, ◌<◌, max, ◌≡◌, true}
-use Rattle.std.proofs.Common.{arith, ◌∙◌}
-use Rattle.std.proofs.Math.Path.{ap}
-use mathlib.Core.List.{List, [], ◌∷◌, ◌++◌}
+use Rattle.std.proofs.Common.{arith, ◌∙◌, ap, List, [], ◌∷◌, ◌++◌}
 use Rattle.kernel.specs.Rules.{JobSet, Kind, CUT}
 use Rattle.kernel.specs.Log.{kind_number}
 use Rattle.kernel.specs.Words.{set_of, Loaded}

@@ -1,10 +1,6 @@
 -- What is written and counted of a forest: of none, of a node that is left out, of a node with what stands below it, and of siblings after siblings.
-use Prim.Native.Nat.{ℕ, ◌+◌, ◌*◌, ◌≤◌, ◌<◌}
-use native.Mathlib.Omega.{arith}
+use Rattle.std.proofs.Common.{ℕ, ◌+◌, ◌*◌, ◌≤◌, ◌<◌, arith, sym, ap, ap₂, ◌∙◌, List, ◌++◌, append-nil}
 use Rattle.std.specs.Prelude.{◌≡◌, refl, length}
-use Rattle.std.proofs.Math.Path.{sym, ap, ap₂}
-use Rattle.std.proofs.Common.{◌∙◌}
-use mathlib.Core.List.{List, ◌++◌, append-nil}
 use Rattle.std.proofs.Math.Seq.{sets}
 use Rattle.kernel.specs.Rules.{JobSet}
 use Rattle.kernel.specs.Laws.Tests.{iflt}

@@ -1,7 +1,4 @@
-use Prim.Native.Nat.{ℕ, ◌+◌, ◌-◌, ◌*◌, ◌/◌, ◌≤◌, ◌<◌}
-use native.Mathlib.Omega.{arith}
-use mathlib.Core.Path.{◌≡◌}
-use lib.ListN.{get_or}
+use Rattle.std.proofs.Common.{ℕ, ◌+◌, ◌-◌, ◌*◌, ◌/◌, ◌≤◌, ◌<◌, arith, ◌≡◌, get_or}
 use Rattle.kernel.specs.Words.{set_of}
 use Rattle.kernel.specs.Laws.Tests.{below}
 use Rattle.walk.specs.Laws.Keyed.{NoneAbove, aboves_none, aboves_some}

@@ -1,6 +1,4 @@
-use Prim.Native.Nat.{ℕ, ◌+◌, ◌-◌, ◌≤◌, ◌<◌}
-use native.Mathlib.Omega.{arith}
-use mathlib.Core.Path.{◌≡◌}
+use Rattle.std.proofs.Common.{ℕ, ◌+◌, ◌-◌, ◌≤◌, ◌<◌, arith, ◌≡◌}
 use Rattle.kernel.specs.Laws.Tests.{below}
 use Rattle.kernel.specs.Words.{set_of}
 use Rattle.walk.specs.Laws.Keyed.{released_by}

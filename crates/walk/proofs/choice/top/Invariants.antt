@@ -1,7 +1,4 @@
-use Prim.Native.Nat.{◌-◌, ◌*◌, ◌≤◌}
-use native.Mathlib.Omega.{arith}
-use mathlib.Core.Path.{◌≡◌, refl}
-use lib.ListN.{get_or}
+use Rattle.std.proofs.Common.{◌-◌, ◌*◌, ◌≤◌, arith, ◌≡◌, refl, get_or}
 use Rattle.kernel.specs.Jobs.{largest}
 use Rattle.kernel.specs.Laws.Largest.{largest_le, largest_more, largest_all}
 use Rattle.walk.proofs.choice.top.Given as goal

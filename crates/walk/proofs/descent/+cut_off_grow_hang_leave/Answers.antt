@@ -1,5 +1,4 @@
-use borrow.Author.Rules.{rules}
-use Rattle.std.proofs.Common.{arith, refl}
+use Rattle.std.proofs.Common.{rules, arith, refl}
 use Rattle.walk.proofs.Hanging.{hung_past, hung_last, hang_grows, hung_job}
 use Rattle.walk.proofs.Growing.{grown_none, early_fits, grow_leaves, grown_left, grow_cuts, grown_cut}
 use Rattle.walk.proofs.Turn.{turn_span, turn_last, turn_less, turn_hang, turn_more}
@@ -23,13 +22,13 @@ pub grow-overflow_add-early : goal.grow-overflow_add-early
 grow-overflow_add-early t c = omega (arith, early_fits c.requires c.of_job-was.ensures)
 
 pub grow-returns-then-late-latest : goal.grow-returns-then-late-latest
-grow-returns-then-late-latest t c = grown_left c.requires c.of_job-was.ensures (omega arith) refl refl c.released-released.ensures c.weight.ensures c.above-latest.ensures c.leave-left.ensures c.if-late-latest.true
+grow-returns-then-late-latest t c = grown_left c.requires c.of_job-was.ensures (omega arith) (omega arith) (omega arith) c.released-released.ensures c.weight.ensures c.above-latest.ensures c.leave-left.ensures c.if-late-latest.true
 
 pub grow-cut_off-requires : goal.grow-cut_off-requires
-grow-cut_off-requires t c = (omega arith, grow_cuts c.requires c.of_job-was.ensures (omega arith) refl refl c.released-released.ensures c.weight.ensures c.above-latest.ensures c.leave-left.ensures c.if-late-latest.false)
+grow-cut_off-requires t c = (omega arith, grow_cuts c.requires c.of_job-was.ensures (omega arith) (omega arith) (omega arith) c.released-released.ensures c.weight.ensures c.above-latest.ensures c.leave-left.ensures c.if-late-latest.false)
 
 pub grow-returns : goal.grow-returns
-grow-returns t c = grown_cut c.requires c.of_job-was.ensures (omega arith) refl refl c.released-released.ensures c.weight.ensures c.above-latest.ensures c.leave-left.ensures c.cut_off.ensures
+grow-returns t c = grown_cut c.requires c.of_job-was.ensures (omega arith) (omega arith) (omega arith) c.released-released.ensures c.weight.ensures c.above-latest.ensures c.leave-left.ensures c.cut_off.ensures
 
 pub hang-returns-then-cap-at : goal.hang-returns-then-cap-at
 hang-returns-then-cap-at t c = search (rules, hung_past)
@@ -53,19 +52,19 @@ pub leave-loop-t-init : goal.leave-loop-t-init
 leave-loop-t-init t c = search (rules, leave_starts)
 
 pub leave-span-x-requires : goal.leave-span-x-requires
-leave-span-x-requires t c = search (rules, turn_span)
+leave-span-x-requires t c = turn_span c.loop-t.invariant (omega arith)
 
 pub leave-hang-count-requires : goal.leave-hang-count-requires
-leave-hang-count-requires t c = search (rules, turn_hang)
+leave-hang-count-requires t c = (omega arith, turn_hang c.loop-t.invariant (omega arith) c.span-x.ensures)
 
 pub leave-overflow_add-t : goal.leave-overflow_add-t
-leave-overflow_add-t t c = omega (arith, turn_last c.loop-t.invariant c.loop-t-test.true c.span-x.ensures, c.loop-t.invariant.leaves.high.near)
+leave-overflow_add-t t c = omega (arith, turn_last c.loop-t.invariant (omega arith) c.span-x.ensures, c.loop-t.invariant.leaves.high.near)
 
 pub leave-loop-t-smaller : goal.leave-loop-t-smaller
-leave-loop-t-smaller t c = search (rules, turn_less)
+leave-loop-t-smaller t c = turn_less c.loop-t.invariant (omega arith) c.span-x.ensures
 
 pub leave-loop-t-preserved : goal.leave-loop-t-preserved
-leave-loop-t-preserved t c = search (rules, turn_more)
+leave-loop-t-preserved t c = turn_more c.loop-t.invariant (omega arith) c.span-x.ensures c.hang-count.auto.words c.hang-count.ensures
 
 pub leave-returns : goal.leave-returns
 leave-returns t c = search (rules, left_all)

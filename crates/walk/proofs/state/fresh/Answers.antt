@@ -1,7 +1,4 @@
-use Prim.Native.Nat.{ℕ, ◌+◌, ◌-◌, ◌≤◌, ◌<◌}
-use native.Mathlib.Omega.{arith}
-use mathlib.Core.Path.{◌∙◌, ap, ◌≡◌}
-use lib.ListN.{length}
+use Rattle.std.proofs.Common.{ℕ, ◌+◌, ◌-◌, ◌≤◌, ◌<◌, arith, ◌∙◌, ap, ◌≡◌, length}
 use Rattle.kernel.specs.Words.{set_of}
 use Rattle.walk.specs.State.{standing_at, new_at}
 use Rattle.walk.specs.Laws.Standing.{put_length, standing_cases}
