@@ -21,7 +21,7 @@ use Rattle.walk.specs.Laws.Twigs.{twig_job, twig_from, twig_to, dispatched_rep}
 use Rattle.walk.specs.Laws.Unfinished.{running_key, twig_key, put_first}
 use Rattle.walk.specs.declared.state.Standing.{Standing}
 use Rattle.walk.specs.declared.switches.Switch.{Switch}
-use Rattle.walk.specs.Count.{Count, Few, with_node, with_order}
+use Rattle.walk.specs.Count.{Count, with_node, with_order}
 
 -- the words of the node are those that the tree has
 module _ {w s : List ℕ} {x : Switch} {kind : Kind} {κ : Control} {least most : ℕ → ℕ → ℕ} {p : Span} (T : Twig w s x kind κ least most p)

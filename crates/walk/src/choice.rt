@@ -47,7 +47,7 @@ pub fn first_unfinished(set: &[u32; 322], state: &[u32; 128], done: usize) -> us
 }
 
 // The largest key of the jobs below `out`; none below `first` has one.
-#[tactic(auto, using(kernel::specs::Laws::Largest::largest_le, kernel::specs::Laws::Largest::largest_more, kernel::specs::Laws::Largest::largest_all))]
+#[tactic(auto, using(kernel::specs::Laws::Largest::largest_le, kernel::specs::Laws::Largest::largest_more))]
 fn top(state: &[u32; 128], first: usize, out: usize) -> u32
     requires { TopAsk state.now first out }
     ensures { result ≡ largest (λ i. get_or state.now (4 * i) 0) out }
@@ -74,7 +74,7 @@ fn reached(set: &[u32; 322], first: usize, out: usize) -> usize
 }
 
 // The job that is dispatched next after a leaving by which `out` jobs are released; the number of jobs where all are finished.
-#[tactic(auto, using(crate::specs::Laws::Keyed::follows, crate::specs::Laws::Keyed::follows_none))]
+#[tactic(auto, using(crate::specs::Laws::Keyed::follows_none))]
 pub fn after(set: &[u32; 322], state: &[u32; 128], first: usize, out: usize) -> u32
     requires { NextAsk set.now state.now first out }
     ensures { Follows set.now state.now out result }

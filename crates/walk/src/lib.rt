@@ -32,7 +32,7 @@ fn room_of(words: usize) -> u32
 }
 
 // How many switches may follow the first.
-#[tactic(auto, using(kernel::specs::Laws::Sums::sum_none, kernel::specs::Laws::Sums::sum_more, kernel::specs::Laws::Sums::sum_all, kernel::specs::Laws::Sums::sum_rises))]
+#[tactic(auto, using(kernel::specs::Laws::Sums::sum_none, kernel::specs::Laws::Sums::sum_more, kernel::specs::Laws::Sums::sum_rises))]
 fn enough(set: &[u32; 322]) -> usize
     requires { Loaded set.now }
     ensures { result ≡ enough (set_of set.now) }
@@ -48,7 +48,6 @@ fn enough(set: &[u32; 322]) -> usize
 }
 
 // One walk over all orders that writes as many words as are lent, and counts nodes up to `cap`.
-#[tactic(auto, unfolding(crate::specs::Count::count_of), using(crate::specs::Laws::Root::root_ask, crate::specs::Laws::Root::root_passed))]
 fn pass(set: &[u32; 322], words: &mut [u32], cap: u32) -> u64
     requires { PassAsk set.now cap }
     ensures { Passed set.now cap words.old words.new (count_of result) }
@@ -71,7 +70,7 @@ fn pass(set: &[u32; 322], words: &mut [u32], cap: u32) -> u64
 }
 
 // Counts first, so that words that do not hold the whole tree stay as they are.
-#[tactic(auto, using(crate::specs::Laws::Whole::walked_large, crate::specs::Laws::Whole::walked_whole))]
+#[tactic(auto, using(crate::specs::Laws::Whole::walked_large))]
 pub fn tree(set: &[u32; 322], words: &mut [u32]) -> Found
     requires { Loaded set.now }
     ensures { Walked (set_of set.now) words.old words.new result }

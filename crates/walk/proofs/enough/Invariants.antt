@@ -1,5 +1,4 @@
-use Rattle.std.proofs.Common.{◌+◌, ◌-◌, ◌≤◌, arith, ◌≡◌, refl}
-use Rattle.kernel.specs.Laws.Sums.{sum_none, sum_more, sum_all, sum_rises}
+use Rattle.std.proofs.Common.{◌-◌, ◌≤◌, ◌≡◌}
 use Rattle.kernel.specs.Jobs.{sum}
 use Rattle.kernel.specs.Words.{set_of}
 use Rattle.walk.proofs.enough.Given as goal

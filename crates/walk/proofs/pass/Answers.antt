@@ -1,8 +1,10 @@
 use Rattle.std.proofs.Common.{rules}
-use Rattle.walk.specs.Count.{count_of}
-use Rattle.walk.specs.Laws.Root.{root_passed}
+use Rattle.walk.specs.Laws.Counting.{count_none}
+use Rattle.walk.specs.Laws.Root.{root_ask, root_passed}
 use Rattle.walk.proofs.pass.Goals as goal
 
+pub hang-requires : goal.hang-requires
+hang-requires c = rw count_none (search (rules, root_ask))
+
 pub returns : goal.returns
-unfolding count_of
-returns c = search (rules, root_passed)
+returns c = let walked = rw count_none at c.hang.ensures in search (rules, root_passed)

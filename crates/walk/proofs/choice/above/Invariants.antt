@@ -1,7 +1,6 @@
-use Rattle.std.proofs.Common.{ℕ, ◌+◌, ◌-◌, ◌*◌, ◌/◌, ◌≤◌, ◌<◌, arith, ◌≡◌, get_or}
+use Rattle.std.proofs.Common.{◌-◌, ◌≤◌, ◌≡◌}
 use Rattle.kernel.specs.Words.{set_of}
-use Rattle.kernel.specs.Laws.Tests.{below}
-use Rattle.walk.specs.Laws.Keyed.{NoneAbove, aboves_none, aboves_some}
+use Rattle.walk.specs.Laws.Keyed.{NoneAbove}
 use Rattle.walk.proofs.choice.above.Given as goal
 
 abbrev pub invariant-loop-i : goal.invariant-loop-i

@@ -1,5 +1,4 @@
-use Rattle.std.proofs.Common.{ℕ, ◌+◌, ◌-◌, ◌*◌, ◌≤◌, ◌<◌, arith, ◌≡◌, get_or}
-use Rattle.kernel.specs.Laws.Tests.{below}
+use Rattle.std.proofs.Common.{◌-◌, ◌≤◌, ◌≡◌}
 use Rattle.kernel.specs.Words.{set_of}
 use Rattle.walk.specs.Choice.{NoKeys}
 use Rattle.walk.proofs.choice.first_unfinished.Given as goal

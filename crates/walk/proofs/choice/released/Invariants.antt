@@ -1,7 +1,5 @@
-use Rattle.std.proofs.Common.{ℕ, ◌+◌, ◌-◌, ◌≤◌, ◌<◌, arith, ◌≡◌}
-use Rattle.kernel.specs.Laws.Tests.{below}
+use Rattle.std.proofs.Common.{ℕ, ◌-◌, ◌≤◌, ◌<◌, ◌≡◌}
 use Rattle.kernel.specs.Words.{set_of}
-use Rattle.walk.specs.Laws.Keyed.{released_by}
 use Rattle.walk.proofs.choice.released.Given as goal
 
 abbrev pub invariant-loop-i : goal.invariant-loop-i

@@ -1,6 +1,5 @@
-use Rattle.std.proofs.Common.{◌-◌, ◌*◌, ◌≤◌, arith, ◌≡◌, refl, get_or}
+use Rattle.std.proofs.Common.{◌-◌, ◌*◌, ◌≤◌, ◌≡◌, get_or}
 use Rattle.kernel.specs.Jobs.{largest}
-use Rattle.kernel.specs.Laws.Largest.{largest_le, largest_more, largest_all}
 use Rattle.walk.proofs.choice.top.Given as goal
 
 abbrev pub invariant-loop-i : goal.invariant-loop-i

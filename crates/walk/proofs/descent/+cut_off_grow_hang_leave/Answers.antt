@@ -1,4 +1,5 @@
-use Rattle.std.proofs.Common.{rules, arith, refl}
+-- The descent: what each call asks, and what each of the four functions ensures.
+use Rattle.std.proofs.Common.{rules, arith}
 use Rattle.walk.proofs.Hanging.{hung_past, hung_last, hang_grows, hung_job}
 use Rattle.walk.proofs.Growing.{grown_none, early_fits, grow_leaves, grown_left, grow_cuts, grown_cut}
 use Rattle.walk.proofs.Turn.{turn_span, turn_last, turn_less, turn_hang, turn_more}
@@ -21,14 +22,29 @@ grow-returns-then-depth-eq0 t c = search (rules, grown_none)
 pub grow-overflow_add-early : goal.grow-overflow_add-early
 grow-overflow_add-early t c = omega (arith, early_fits c.requires c.of_job-was.ensures)
 
+pub grow-leave-left-requires : goal.grow-leave-left-requires
+grow-leave-left-requires t c = (
+  omega arith,
+  grow_leaves c.requires c.of_job-was.ensures (omega arith) (omega arith) (omega arith)
+      c.released-released.ensures c.weight.ensures c.above-latest.ensures,
+)
+
 pub grow-returns-then-late-latest : goal.grow-returns-then-late-latest
-grow-returns-then-late-latest t c = grown_left c.requires c.of_job-was.ensures (omega arith) (omega arith) (omega arith) c.released-released.ensures c.weight.ensures c.above-latest.ensures c.leave-left.ensures c.if-late-latest.true
+grow-returns-then-late-latest t c =
+    grown_left c.requires c.of_job-was.ensures (omega arith) (omega arith) (omega arith)
+    c.released-released.ensures c.weight.ensures c.above-latest.ensures c.leave-left.ensures c.if-late-latest.true
 
 pub grow-cut_off-requires : goal.grow-cut_off-requires
-grow-cut_off-requires t c = (omega arith, grow_cuts c.requires c.of_job-was.ensures (omega arith) (omega arith) (omega arith) c.released-released.ensures c.weight.ensures c.above-latest.ensures c.leave-left.ensures c.if-late-latest.false)
+grow-cut_off-requires t c = (
+  omega arith,
+  grow_cuts c.requires c.of_job-was.ensures (omega arith) (omega arith) (omega arith)
+      c.released-released.ensures c.weight.ensures c.above-latest.ensures c.leave-left.ensures c.if-late-latest.false,
+)
 
 pub grow-returns : goal.grow-returns
-grow-returns t c = grown_cut c.requires c.of_job-was.ensures (omega arith) (omega arith) (omega arith) c.released-released.ensures c.weight.ensures c.above-latest.ensures c.leave-left.ensures c.cut_off.ensures
+grow-returns t c =
+    grown_cut c.requires c.of_job-was.ensures (omega arith) (omega arith) (omega arith)
+    c.released-released.ensures c.weight.ensures c.above-latest.ensures c.leave-left.ensures c.cut_off.ensures
 
 pub hang-returns-then-cap-at : goal.hang-returns-then-cap-at
 hang-returns-then-cap-at t c = search (rules, hung_past)

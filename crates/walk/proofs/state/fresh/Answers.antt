@@ -1,11 +1,12 @@
-use Rattle.std.proofs.Common.{ℕ, ◌+◌, ◌-◌, ◌≤◌, ◌<◌, arith, ◌∙◌, ap, ◌≡◌, length}
+use Rattle.std.proofs.Common.{◌+◌, ◌<◌, arith, ◌∙◌, ap, ◌≡◌, length}
 use Rattle.kernel.specs.Words.{set_of}
-use Rattle.walk.specs.State.{standing_at, new_at}
+use Rattle.walk.specs.State.{new_at}
 use Rattle.walk.specs.Laws.Standing.{put_length, standing_cases}
 use Rattle.walk.proofs.state.fresh.Goals as goal
 
 pub loop-i-preserved : goal.loop-i-preserved
-loop-i-preserved c = let inv = c.loop-i.invariant in
+loop-i-preserved c =
+    let inv = c.loop-i.invariant in
     let i = c.loop-i.i in
     let h : i < 32 = c.loop-i-test.true in (
       omega arith,

@@ -1,7 +1,6 @@
-use Rattle.std.proofs.Common.{ℕ, ◌+◌, ◌-◌, ◌≤◌, ◌<◌, arith, ◌∙◌, ap, ◌≡◌, length}
+use Rattle.std.proofs.Common.{ℕ, ◌-◌, ◌≤◌, ◌<◌, ◌≡◌, length}
 use Rattle.kernel.specs.Words.{set_of}
 use Rattle.walk.specs.State.{standing_at, new_at}
-use Rattle.walk.specs.Laws.Standing.{put_length, standing_cases}
 use Rattle.walk.proofs.state.fresh.Given as goal
 
 abbrev pub invariant-loop-i : goal.invariant-loop-i
