@@ -6,6 +6,9 @@ use Rattle.std.proofs.lemmas.List.Edits.{sets}
 use Rattle.kernel.specs.Laws.Tests.{split}
 
 -- a store past the end changes nothing
+pub set_past : (n : ℕ) (l : List ℕ) (i v : ℕ) → length l ≡ n → n ≤ i → l ≡ set l i v
+set_past n l i v e h = sym (set_out l i v (omega arith))
+
 pub store_past : (l : List ℕ) (i v : ℕ) → length l ≤ i → l ≡ set l i v
 store_past l i v h = sym (set_out l i v h)
 
