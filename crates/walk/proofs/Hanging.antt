@@ -21,7 +21,7 @@ use Rattle.walk.specs.Laws.Twigs.{twig_job, twig_from, twig_to, dispatched_rep}
 use Rattle.walk.specs.Laws.Unfinished.{running_key, twig_key, put_first}
 use Rattle.walk.specs.declared.state.Standing.{Standing}
 use Rattle.walk.specs.declared.switches.Switch.{Switch}
-use Rattle.walk.specs.Count.{Count, with_node, with_order}
+use Rattle.walk.specs.Count.{Count, Few, with_node, with_order}
 
 -- the words of the node are those that the tree has
 module _ {w s : List ℕ} {x : Switch} {kind : Kind} {κ : Control} {least most : ℕ → ℕ → ℕ} {p : Span} (T : Twig w s x kind κ least most p)
@@ -42,6 +42,10 @@ module _ {w s : List ℕ} {x : Switch} {c : Count} {depth cap first out at : ℕ
   -- it is left out
   pub hung_past : {parent : ℕ} {b : List ℕ} → cap ≤ at → Hung w s s x parent depth cap b c b c
   hung_past h = record { kept = refl; wrote = λ kind κ least most p T. rw (hang_one (grow (set_of w) depth)) (wrote_past A.room (omega arith)) }
+
+  -- one node more can be counted
+  pub hang_few : at < cap → Few c
+  hang_few h = record { nodes = omega (arith, A.room.most); orders = omega (arith, A.room.orders, A.room.most) }
 
   -- there is room for one node more
   more_room : (orders : ℕ) → at < cap → orders ≤ c.orders + 1 → Room (record { nodes = c.nodes + 1; orders = orders }) cap

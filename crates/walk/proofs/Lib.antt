@@ -1,3 +1,4 @@
+pub mod Rows
 pub mod Hanging
 pub mod Growing
 pub mod Turn
