@@ -3,75 +3,68 @@
 #![tactic(auto)]
 
 use draft::Packed;
+use std::io;
+use std::io::Read;
 
 // The longest text that is taken.
 const TEXT: usize = 65536;
 
-fn say(text: &[u8]) {
-    io::write_all(2, text);
-}
-
 // Why a line of the text is refused.
-fn why(cause: u32) {
+fn why(cause: u32) -> &'static str {
     match cause {
-        1 => say(b"a line begins with frame, job or segment"),
-        2 => say(b"a number is due here, of digits alone and not too large"),
-        3 => say(
-            b"a word is missing or misspelt: job NAME release N priority N, or segment SHORTEST LONGEST holds LOCK",
-        ),
-        4 => say(b"there is something after the end of the line"),
-        5 => say(b"frame comes once, as the first line"),
-        6 => say(b"a segment comes after its job"),
-        7 => say(b"a job has at least one segment"),
-        8 => say(b"there are at most 16 locks"),
-        9 => say(b"the text is longer than a table can be"),
-        10 => say(b"there is no line with words"),
+        1 => "a line begins with frame, job or segment",
+        2 => "a number is due here, of digits alone and not too large",
+        3 => {
+            "a word is missing or misspelt: job NAME release N priority N, or segment SHORTEST LONGEST holds LOCK"
+        }
+        4 => "there is something after the end of the line",
+        5 => "frame comes once, as the first line",
+        6 => "a segment comes after its job",
+        7 => "a job has at least one segment",
+        8 => "there are at most 16 locks",
+        9 => "the text is longer than a table can be",
+        10 => "there is no line with words",
         _ => table(cause),
     }
 }
 
 // What the table itself is refused for.
-fn table(cause: u32) {
+fn table(cause: u32) -> &'static str {
     match cause {
-        22 => say(b"a number is outside its bounds (refusal 2)"),
-        23 => say(b"the job is released earlier than the job before it (refusal 3)"),
-        24 => say(b"no job, more than 32 jobs, or more than 64 segments (refusal 4)"),
-        _ => say(b"the table does not read whole (refusal 1)"),
+        22 => "a number is outside its bounds (refusal 2)",
+        23 => "the job is released earlier than the job before it (refusal 3)",
+        24 => "no job, more than 32 jobs, or more than 64 segments (refusal 4)",
+        _ => "the table does not read whole (refusal 1)",
     }
 }
 
-fn refuse(packed: Packed) {
-    say(b"line ");
-    io::print_decimal(2, packed.line as u64);
-    say(b": cause ");
-    io::print_decimal(2, packed.cause as u64);
-    say(b": ");
-    why(packed.cause);
-    say(b"\n");
+fn refuse(rt: &impl Eprint, packed: Packed) -> io::Result<()> {
+    let reason = why(packed.cause);
+    eprintln!(rt; "line {}: cause {}: {reason}", packed.line, packed.cause)
 }
 
-fn write(bytes: &[u8], length: usize) {
+fn write(rt: &impl Print, bytes: &[u8], length: usize) -> io::Result<()> {
     if length <= bytes.len() {
-        io::write_all(1, &bytes[0..length]);
+        rt.write_all(&bytes[0..length])?;
     }
+    Ok(())
 }
 
-fn turn(text: &[u8], bytes: &mut [u8; 4096]) {
+fn turn(rt: &(impl Print + Eprint), text: &[u8], bytes: &mut [u8; 4096]) -> io::Result<()> {
     let packed = draft::pack(text, bytes);
     if packed.cause != 0 {
-        refuse(packed);
-        return;
+        return refuse(rt, packed);
     }
-    write(bytes, packed.length);
+    write(rt, bytes, packed.length)
 }
 
-fn main() {
-    let mut text = [0u8; 65537];
+// One byte more than a text may have is read, so that a longer one is refused.
+fn main(rt: HostRuntime) -> io::Result<()> {
+    let mut text = Vec::new(rt.alloc());
     let mut bytes = [0u8; 4096];
-    let n = io::read_full(0, &mut text);
-    if TEXT < n {
-        say(b"the text is longer than 65,536 bytes\n");
-        return;
+    rt.stdin().take(TEXT as u64 + 1).read_to_end(&mut text)?;
+    if TEXT < text.len() {
+        return rt.eprintln("the text is longer than 65,536 bytes");
     }
-    turn(&text[..n], &mut bytes);
+    turn(&rt, &text, &mut bytes)
 }

@@ -2,6 +2,7 @@
 ghost use Rattle.std.specs.Prelude.{◌≤◌};
 
 use crate::{show, text};
+use std::io;
 use table::Table;
 
 const MARK: u32 = 2863311530;
@@ -33,75 +34,90 @@ fn untouched(words: &[u32], n: usize) -> bool {
     true
 }
 
-fn begin(refusal: u32) {
-    io::write_all(1, b"-> ");
-    show::number(refusal as u64);
+fn begin(rt: &impl Print, refusal: u32) -> io::Result<()> {
+    rt.write_all(b"-> ")?;
+    show::number(rt, refusal as u64)
 }
 
 // The first n words of a row, and whether the others are as they were.
-fn finish(words: &[u32], n: usize) {
-    show::words(words, n);
+fn finish(rt: &impl Print, words: &[u32], n: usize) -> io::Result<()> {
+    show::words(rt, words, n)?;
     if !untouched(words, n) {
-        io::write_all(1, b" touched");
+        rt.write_all(b" touched")?;
     }
-    io::write_all(1, b"\n");
+    rt.write_all(b"\n")
 }
 
 // replay TIMES: the refusal and the log.
-fn replay(table: &[u8], times: &[u32], log: &mut [u32]) {
+fn replay(rt: &impl Print, table: &[u8], times: &[u32], log: &mut [u32]) -> io::Result<()> {
     let replayed = services::replay(table, times, log);
     let switches = replayed.switches as usize;
-    begin(replayed.refusal);
-    finish(log, 4 * switches);
+    begin(rt, replayed.refusal)?;
+    finish(rt, log, 4 * switches)
 }
 
 // judge LOG: the refusal and the times.
-fn judge(table: &[u8], log: &[u32], times: &mut [u32]) {
+fn judge(rt: &impl Print, table: &[u8], log: &[u32], times: &mut [u32]) -> io::Result<()> {
     let judged = services::judge(table, log, times);
     let mut count: usize = 0;
     if judged.accepted {
         count = Table::read(table).table.segments;
     }
-    begin(judged.refusal);
-    finish(times, count);
+    begin(rt, judged.refusal)?;
+    finish(rt, times, count)
 }
 
 // tree: the refusal, how many nodes and orders there are, and the nodes.
-fn tree(table: &[u8], words: &mut [u32]) {
+fn tree(rt: &impl Print, table: &[u8], words: &mut [u32]) -> io::Result<()> {
     let drawn = services::tree(table, words);
     let nodes = drawn.nodes as usize;
-    begin(drawn.refusal);
-    show::blank();
-    show::number(drawn.nodes as u64);
-    show::blank();
-    show::number(drawn.orders as u64);
-    finish(words, 8 * nodes);
+    begin(rt, drawn.refusal)?;
+    show::blank(rt)?;
+    show::number(rt, drawn.nodes as u64)?;
+    show::blank(rt)?;
+    show::number(rt, drawn.orders as u64)?;
+    finish(rt, words, 8 * nodes)
 }
 
 // list: what the listing program prints.
-fn list(table: &[u8], words: &mut [u32], text: &mut [u8]) {
+fn list(rt: &impl Print, table: &[u8], words: &mut [u32], text: &mut [u8]) -> io::Result<()> {
     let drawn = services::tree(table, words);
     let length = lines::listing(drawn.refusal, drawn.nodes, drawn.orders, words, text);
     if length <= text.len() {
-        io::write_all(1, &text[0..length]);
+        rt.write_all(&text[0..length])?;
     }
+    Ok(())
 }
 
 // With room for 2,048 nodes, as that program has it.
-pub fn list_all(table: &[u8], words: &mut [u32], text: &mut [u8]) {
+pub fn list_all(
+    rt: &impl Print,
+    table: &[u8],
+    words: &mut [u32],
+    text: &mut [u8],
+) -> io::Result<()> {
     let all = lent(16384, words.len());
-    list(table, &mut words[0..all], text);
+    list(rt, table, &mut words[0..all], text)
 }
 
-pub fn service(line: &[u8], table: &[u8], room: usize, numbers: &mut [u32], words: &mut [u32]) {
+pub fn service(
+    rt: &impl Print,
+    line: &[u8],
+    table: &[u8],
+    room: usize,
+    numbers: &mut [u32],
+    words: &mut [u32],
+) -> io::Result<()> {
     mark(words);
     let n = text::numbers_into(line, numbers);
     let all = lent(room, words.len());
     if text::starts(line, b"replay") {
-        replay(table, text::first_words(numbers, n), &mut words[0..all]);
+        replay(rt, table, text::first_words(numbers, n), &mut words[0..all])
     } else if text::starts(line, b"judge") {
-        judge(table, text::first_words(numbers, n), &mut words[0..all]);
+        judge(rt, table, text::first_words(numbers, n), &mut words[0..all])
     } else if text::starts(line, b"tree") {
-        tree(table, &mut words[0..all]);
+        tree(rt, table, &mut words[0..all])
+    } else {
+        Ok(())
     }
 }

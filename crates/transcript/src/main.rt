@@ -5,8 +5,11 @@ mod call;
 mod show;
 mod text;
 
+use std::io;
+use std::io::Read;
+
 // The most input that is read, and the longest table that a command may give.
-const INPUT: usize = 524288;
+const INPUT: u64 = 524288;
 
 // How many words a call is lent, where no command says otherwise: room for 2,048 nodes.
 const ROOM: usize = 16384;
@@ -20,42 +23,44 @@ pub struct Setting {
 
 // One line of the transcript.
 fn serve(
+    rt: &impl Print,
     line: &[u8],
     table: &mut [u8; 5000],
     setting: Setting,
     numbers: &mut [u32; 400],
     words: &mut [u32; 16400],
     listing: &mut [u8; 205000],
-) -> Setting {
-    io::write_all(1, line);
-    io::write_all(1, b"\n");
+) -> io::Result<Setting> {
+    rt.write_all(line)?;
+    rt.write_all(b"\n")?;
     if text::starts(line, b"table ") {
         let bytes = text::hex_into(text::word(line, 1), table);
-        show::reading(text::between(table, 0, bytes));
-        return Setting { bytes, room: ROOM };
+        show::reading(rt, text::between(table, 0, bytes))?;
+        return Ok(Setting { bytes, room: ROOM });
     }
     if text::starts(line, b"room ") {
         let room = text::number(text::word(line, 1)) as usize;
-        return Setting {
+        return Ok(Setting {
             bytes: setting.bytes,
             room,
-        };
+        });
     }
     if text::starts(line, b"list") {
-        call::list_all(text::between(table, 0, setting.bytes), words, listing);
-        return setting;
+        call::list_all(rt, text::between(table, 0, setting.bytes), words, listing)?;
+        return Ok(setting);
     }
     call::service(
+        rt,
         line,
         text::between(table, 0, setting.bytes),
         setting.room,
         numbers,
         words,
-    );
-    setting
+    )?;
+    Ok(setting)
 }
 
-fn serve_all(input: &[u8]) {
+fn serve_all(rt: &impl Print, input: &[u8]) -> io::Result<()> {
     let mut table = [0u8; 5000];
     let mut numbers = [0u32; 400];
     let mut words = [0u32; 16400];
@@ -68,19 +73,21 @@ fn serve_all(input: &[u8]) {
     while at < input.len() {
         let end = text::line_end(input, at);
         setting = serve(
+            rt,
             text::between(input, at, end),
             &mut table,
             setting,
             &mut numbers,
             &mut words,
             &mut listing,
-        );
+        )?;
         at = end + 1;
     }
+    Ok(())
 }
 
-fn main() {
-    let mut input = [0u8; INPUT];
-    let n = io::read_full(0, &mut input);
-    serve_all(&input[..n]);
+fn main(rt: HostRuntime) -> io::Result<()> {
+    let mut input = Vec::new(rt.alloc());
+    rt.stdin().take(INPUT).read_to_end(&mut input)?;
+    serve_all(&rt, &input)
 }

@@ -1,72 +1,75 @@
 // What the library answers, as text.
 use crate::text;
+use std::io;
 use table::Table;
 
-pub fn number(n: u64) {
-    io::print_decimal(1, n);
+pub fn number(rt: &impl Print, n: u64) -> io::Result<()> {
+    rt.print(n)
 }
 
-pub fn blank() {
-    io::write_all(1, b" ");
+pub fn blank(rt: &impl Print) -> io::Result<()> {
+    rt.write_all(b" ")
 }
 
 // A word, and `-` for 4,294,967,295.
-fn word(w: u32) {
-    blank();
+fn word(rt: &impl Print, w: u32) -> io::Result<()> {
+    blank(rt)?;
     if w == 4294967295 {
-        io::write_all(1, b"-");
+        rt.write_all(b"-")
     } else {
-        number(w as u64);
+        number(rt, w as u64)
     }
 }
 
 // The first n words of a row.
-pub fn words(row: &[u32], n: usize) {
+pub fn words(rt: &impl Print, row: &[u32], n: usize) -> io::Result<()> {
     let mut i: usize = 0;
     while i < row.len() {
         if i < n {
-            word(row[i]);
+            word(rt, row[i])?;
         }
         i += 1;
     }
+    Ok(())
 }
 
-fn two_digits(byte: u8) {
-    io::print_hex(1, byte as u64, 2);
+fn two_digits(rt: &impl Print, byte: u8) -> io::Result<()> {
+    print!(rt; "{byte:02x}")
 }
 
 // A part, in hexadecimal: `-` where it is empty.
-fn hex(s: &[u8]) {
-    blank();
+fn hex(rt: &impl Print, s: &[u8]) -> io::Result<()> {
+    blank(rt)?;
     if s.len() == 0 {
-        io::write_all(1, b"-");
+        rt.write_all(b"-")?;
     }
     let mut i: usize = 0;
     while i < s.len() {
-        two_digits(text::byte_at(s, i));
+        two_digits(rt, text::byte_at(s, i))?;
         i += 1;
     }
+    Ok(())
 }
 
 // The parts of the jobs by number, of one job more, and of the largest number.
-fn parts(bytes: &[u8], jobs: usize) {
+fn parts(rt: &impl Print, bytes: &[u8], jobs: usize) -> io::Result<()> {
     let mut j: u32 = 0;
     while j < 33 {
         if (j as usize) <= jobs {
-            hex(Table::part(bytes, j));
+            hex(rt, Table::part(bytes, j))?;
         }
         j += 1;
     }
-    hex(Table::part(bytes, 4294967295));
+    hex(rt, Table::part(bytes, 4294967295))
 }
 
 // The refusal and its place, and the parts of the jobs.
-pub fn reading(bytes: &[u8]) {
+pub fn reading(rt: &impl Print, bytes: &[u8]) -> io::Result<()> {
     let outcome = Table::read(bytes);
-    io::write_all(1, b"reads ");
-    number(outcome.refusal as u64);
-    blank();
-    number(outcome.place as u64);
-    parts(bytes, outcome.table.jobs);
-    io::write_all(1, b"\n");
+    rt.write_all(b"reads ")?;
+    number(rt, outcome.refusal as u64)?;
+    blank(rt)?;
+    number(rt, outcome.place as u64)?;
+    parts(rt, bytes, outcome.table.jobs)?;
+    rt.write_all(b"\n")
 }
