@@ -1,7 +1,7 @@
 /*
  * Vlodenka: the job orders of a small kernel, from its job table alone.
  *
- * Link with libvlodenka.a, which `rt staticlib vlodenka` proves and writes to target/staticlib/ (for x86-64).
+ * Link with libvlodenka.a (for x86-64), which examples/run proves and writes to target/staticlib/.
  *
  * A table is bytes: one FR record, then for each job a JB record and its SG records. Every call answers with a refusal's number:
  *

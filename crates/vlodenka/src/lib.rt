@@ -1,5 +1,5 @@
 // The services for C: a slice passes as pointer and length, the answer is the refusal's number, and every out-parameter is written on every call. See
-// include/vlodenka.h.
+// include/vlodenka.h. C links them by the crate vlodenka_c, since a library of Rattle exports nothing.
 #![tactic(auto)]
 
 ghost use Rattle.std.specs.Prelude.{◌≡◌, min};
