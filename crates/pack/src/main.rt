@@ -2,6 +2,8 @@
 // is refused and why, and writes nothing else.
 #![tactic(auto)]
 
+ghost use Rattle.std.specs.Prelude.{◌≤◌, IfOk, length};
+
 use draft::Packed;
 use std::io;
 use std::io::Read;
@@ -58,13 +60,28 @@ fn turn(rt: &(impl Print + Eprint), text: &[u8], bytes: &mut [u8; 4096]) -> io::
     write(rt, bytes, packed.length)
 }
 
+// Reads until the input ends or the buffer is full, and answers how many bytes it has.
+fn read_full(mut input: impl Read + Drop, buffer: &mut [u8]) -> io::Result<usize>
+    ensures { IfOk result (λ n. n ≤ length buffer.new) }
+{
+    let mut n: usize = 0;
+    while n < buffer.len() {
+        let more = input.read(&mut buffer[n..])?;
+        if more == 0 {
+            return Ok(n);
+        }
+        n += more;
+    }
+    Ok(n)
+}
+
 // One byte more than a text may have is read, so that a longer one is refused.
 fn main(rt: HostRuntime) -> io::Result<()> {
-    let mut text = Vec::new(rt.alloc());
+    let mut text = [0u8; 65537];
     let mut bytes = [0u8; 4096];
-    rt.stdin().take(TEXT as u64 + 1).read_to_end(&mut text)?;
-    if TEXT < text.len() {
+    let n = read_full(rt.stdin(), &mut text)?;
+    if TEXT < n {
         return rt.eprintln("the text is longer than 65,536 bytes");
     }
-    turn(&rt, &text, &mut bytes)
+    turn(&rt, &text[..n], &mut bytes)
 }
