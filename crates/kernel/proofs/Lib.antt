@@ -1,4 +1,5 @@
 pub mod Arrays
+pub mod Keyed
 pub mod Release
 pub mod Noted
 pub mod Going

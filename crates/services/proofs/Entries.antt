@@ -1,5 +1,6 @@
 -- A log of entries read off entry by entry.
-use Prim.Native.Nat.{ℕ, ◌+◌, ◌*◌, ◌/◌, ◌≤◌, ◌<◌}
+use Prim.Native.Nat.{ℕ, zero, suc, ◌+◌, ◌*◌, ◌/◌, ◌≤◌, ◌<◌}
+use native.Mathlib.Numerals.{add-one}
 use native.Mathlib.Omega.{arith}
 use mathlib.Core.Path.{◌≡◌, refl, sym, ap, ◌∙◌}
 use mathlib.Core.List.{List, [], ◌∷◌, ◌++◌}
@@ -8,7 +9,7 @@ use lib.Seq.{get_or-drop, drop-drop}
 use Rattle.kernel.specs.Rules.{JobSet}
 use Rattle.kernel.specs.Words.{set_of, Loaded}
 use Rattle.kernel.specs.Laws.Times.{Entry, Reading, unread, read_on, read_all}
-use Rattle.services.specs.Told.{credited, ran_next, entry_words, entries_words, TellsTimes}
+use Rattle.services.specs.Told.{credited, ran_next, hearing, heard, times_told, entry_words, entries_words, TellsTimes}
 use Rattle.services.specs.declared.told.Ran.{Ran}
 use Rattle.services.proofs.Credits.{credit_length}
 use Rattle.services.proofs.Telling.{Follows, follows_none, follows_next}
@@ -18,7 +19,7 @@ pub record Going (w log times : List ℕ) (ran : Ran) (i : ℕ) (l : List Entry)
   pub rest : List Entry
   pub reading : Reading
   pub follows : Follows w times ran reading
-  pub to_come_lem : drop (4 * i) log ≡ entries_words (set_of w) rest
+  pub to_come : drop (4 * i) log ≡ entries_words (set_of w) rest
   pub whole : read_all (set_of w) reading rest ≡ read_all (set_of w) (unread (set_of w)) l
 
 -- so of whatever entries the log has
@@ -31,7 +32,7 @@ pub reads_none : (w log times : List ℕ) (ran : Ran) → Loaded w → times ≡
 reads_none w log times ran L e r = record {
   inside = omega arith;
   size = ap length e ∙ length-replicate {A = ℕ} 64 0;
-  going = λ l q. record { rest = l; reading = unread (set_of w); follows = rw (e, r) (follows_none w L); to_come_lem = q; whole = refl };
+  going = λ l q. record { rest = l; reading = unread (set_of w); follows = rw (e, r) (follows_none w L); to_come = q; whole = refl };
 }
 
 entries_none : (J : JobSet) → entries_words J [] ≡ []
@@ -65,7 +66,7 @@ module _ (w log times : List ℕ) (L : Loaded w) (ran : Ran) (i : ℕ) (h : i < 
     rest = vs;
     reading = read_on (set_of w) m v;
     follows = follows_next w times L ran m F _ v _ _ (word_at v vs 1 e) (word_at v vs 2 e) (word_at v vs 3 e);
-    to_come_lem = later_words v vs e;
+    to_come = later_words v vs e;
     whole = unfold read_all in z;
   }
 
@@ -77,7 +78,7 @@ reads_next w log times more ran next i tick job segment L h R et ej es em en = r
   size = ap length em ∙ credit_length w ran tick times ∙ R.size;
   going = λ l q.
       let G = R.going l q in
-      rw (em, en, et, ej, es) (going_next w log times L ran i h l G.rest G.reading G.follows G.to_come_lem G.whole);
+      rw (em, en, et, ej, es) (going_next w log times L ran i h l G.rest G.reading G.follows G.to_come G.whole);
 }
 
 module _ (w log times : List ℕ) (ran : Ran) (i : ℕ) where
@@ -92,5 +93,30 @@ module _ (w log times : List ℕ) (ran : Ran) (i : ℕ) where
     size = R.size;
     tells = λ l q.
         let G = R.going l q in
-        (over l G.rest G.reading h R.inside G.follows G.to_come_lem G.whole).told;
+        (over l G.rest G.reading h R.inside G.follows G.to_come G.whole).told;
   }
+
+-- ---- the times read off a log, whatever its words are
+
+reads : (w log : List ℕ) → Loaded w → (i : ℕ) → i ≤ length log / 4 → Reads w log (heard w log i).times (heard w log i).ran i
+unfolding heard
+reads w log L zero h = reads_none w log _ _ L refl refl
+reads w log L (suc i) h =
+    rw (← add-one i) (reads_next w log (heard w log i).times _ (heard w log i).ran _ i _ _ _ L (omega arith) (reads w log L i (omega arith)) refl refl refl refl refl)
+
+-- as code that reads switch by switch comes to them
+pub heard_none : (w log : List ℕ) (jobs : ℕ) → jobs ≡ (set_of w).jobs
+    → heard w log 0 ≡ record { times = replicate 64 0; ran = record { job = jobs; segment = 0; since = 0 } }
+unfolding heard
+heard_none w log jobs e = rw e
+
+pub heard_more : (w log times more : List ℕ) (ran next : Ran) (i tick job segment : ℕ) → heard w log i ≡ record { times = times; ran = ran }
+    → tick ≡ get_or log (4 * i + 1) 0 → job ≡ get_or log (4 * i + 2) 0 → segment ≡ get_or log (4 * i + 3) 0
+    → more ≡ credited w ran tick times → next ≡ ran_next w tick job segment → heard w log (i + 1) ≡ record { times = more; ran = next }
+unfolding heard
+heard_more w log times more ran next i tick job segment h et ej es em en =
+    rw (add-one i) (ap (hearing w log i) h ∙ rw (em, en, et, ej, es))
+
+-- they are those that its entries tell
+pub told_tells : (w log : List ℕ) → Loaded w → TellsTimes w log (times_told w log)
+told_tells w log L = let n : ℕ = length log / 4 in reads_all w log _ _ n (omega arith) (reads w log L n (omega arith))

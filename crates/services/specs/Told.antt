@@ -1,5 +1,5 @@
 -- The times that a log tells, as the code reads them off: one word per segment in table order.
-use Rattle.std.specs.Prelude.{ℕ, ◌+◌, ◌-◌, ◌<◌, min, max, ◌≡◌, cond, List, [], ◌∷◌, ◌++◌, length, get_or, set, ltb}
+use Rattle.std.specs.Prelude.{ℕ, zero, suc, ◌+◌, ◌*◌, ◌-◌, ◌/◌, ◌<◌, min, max, ◌≡◌, cond, List, [], ◌∷◌, ◌++◌, length, replicate, get_or, set, ltb}
 use Rattle.kernel.specs.Rules.{JobSet}
 use Rattle.kernel.specs.Log.{kind_number, named, time_in}
 use Rattle.kernel.specs.Words.{set_of, first_of}
@@ -14,6 +14,25 @@ credited w ran tick times =
 
 abbrev pub ran_next : List ℕ → (tick job segment : ℕ) → Ran
 ran_next w tick job segment = record { job = job; segment = segment; since = max tick ((set_of w).release job) }
+
+-- how far a log is read: the times so far, and what ran last
+pub record Heard : Type 0 where
+  pub times : List ℕ
+  pub ran : Ran
+
+abbrev pub hearing : (w log : List ℕ) (i : ℕ) → Heard → Heard
+hearing w log i h =
+    let tick = get_or log (4 * i + 1) 0 in
+    record { times = credited w h.ran tick h.times; ran = ran_next w tick (get_or log (4 * i + 2) 0) (get_or log (4 * i + 3) 0) }
+
+-- the first n switches of a log, whatever its words are
+unfoldable pub heard : (w log : List ℕ) (n : ℕ) → Heard
+heard w log zero = record { times = replicate 64 0; ran = record { job = (set_of w).jobs; segment = 0; since = 0 } }
+heard w log (suc n) = hearing w log n (heard w log n)
+
+-- the times that a log tells
+abbrev pub times_told : (w log : List ℕ) → List ℕ
+times_told w log = (heard w log (length log / 4)).times
 
 -- the words of a log's entries
 abbrev pub entry_words : JobSet → Entry → List ℕ

@@ -1,6 +1,8 @@
 // Runs the vectors: reads commands line by line from standard input and writes each with what the library answers.
 #![tactic(auto)]
 
+ghost use Rattle.std.specs.Prelude.{◌≤◌, IfOk, length};
+
 mod call;
 mod show;
 mod text;
@@ -9,7 +11,7 @@ use std::io;
 use std::io::Read;
 
 // The most input that is read, and the longest table that a command may give.
-const INPUT: u64 = 524288;
+const INPUT: usize = 524288;
 
 // How many words a call is lent, where no command says otherwise: room for 2,048 nodes.
 const ROOM: usize = 16384;
@@ -86,8 +88,32 @@ fn serve_all(rt: &impl Print, input: &[u8]) -> io::Result<()> {
     Ok(())
 }
 
+// Reads until the input ends or the buffer is full, and answers how many bytes it has.
+fn read_full(mut input: impl Read + Drop, buffer: &mut [u8]) -> io::Result<usize>
+    ensures { IfOk result (λ n. n ≤ length buffer.new) }
+{
+    let mut n: usize = 0;
+    while n < buffer.len() {
+        let more = input.read(&mut buffer[n..])?;
+        if more == 0 {
+            return Ok(n);
+        }
+        n += more;
+    }
+    Ok(n)
+}
+
+// The buffer comes from the caller, so that no proof has an array of this size before it.
+fn serve_input(
+    rt: &impl Print,
+    input: impl Read + Drop,
+    buffer: &mut [u8; INPUT],
+) -> io::Result<()> {
+    let n = read_full(input, buffer)?;
+    serve_all(rt, &buffer[..n])
+}
+
 fn main(rt: HostRuntime) -> io::Result<()> {
-    let mut input = Vec::new(rt.alloc());
-    rt.stdin().take(INPUT).read_to_end(&mut input)?;
-    serve_all(&rt, &input)
+    let mut buffer = [0u8; INPUT];
+    serve_input(&rt, rt.stdin(), &mut buffer)
 }
