@@ -3,22 +3,25 @@ use Prim.Native.Nat.{ℕ, zero, suc, ◌+◌, ◌≤◌}
 use native.Mathlib.Nat.{zero-add, add_assoc}
 use native.Mathlib.Omega.{arith}
 use mathlib.Core.Path.{◌≡◌, refl, sym, ◌∙◌, ap}
-use mathlib.Core.List.{List, [], ◌∷◌, ◌++◌, map, append-nil, append_assoc}
+use mathlib.Core.List.{List, [], ◌∷◌, ◌++◌, append-nil, append_assoc}
 use mathlib.Core.Bool.{Bool, true, false, cond}
-use lib.ListN.{length, set, length-append, length-map}
+use lib.ListN.{length, set, length-append}
 use lib.Seq.{set_out}
 use lib.Dec.{ltb}
 use borrow.Author.Tests.{ltb-false}
-use borrow.Table.Elements.{map_app}
+use Rattle.std.specs.Option.{option_or}
+use Rattle.std.specs.Bool.{then_some}
 use Rattle.table.specs.Records.{Placed}
-use Rattle.table.specs.Table.{JobEntry, SegmentEntry, segment_in, job_in, frame_after, segments_of, jobs_from, jobs_of, frame_of, padded, table_from, recorded}
+use Rattle.table.specs.Table.{no_job, no_segment, segment_in, job_in, frame_after, segments_of, jobs_from, jobs_of, frame_of, padded, table_from, recorded}
 use Rattle.table.specs.Refusal.{nothing, learn, outside, earlier, beyond, when, failing}
-use Rattle.table.specs.Steps.{kept, with_frame, with_job, with_segment, added, known_by, known_of, spot_of, first_spot, scan_of, scanned}
+use Rattle.table.specs.Steps.{kept, with_job, with_segment, added, known_by, known_of, first_of, scan_of, scanned}
+use Rattle.table.specs.declared.Job.{Job}
+use Rattle.table.specs.declared.Segment.{Segment}
 use Rattle.table.specs.declared.scan.Known.{Known}
 use Rattle.table.specs.declared.records.Record.{Record}
-use Rattle.table.specs.declared.records.Record.TheVariants.{Frame, Job, Segment}
+use Rattle.table.specs.declared.records.Record.TheVariants as Say
 
--- ---- lists of entries
+-- ---- the jobs, the segments and the frame length
 
 segments_snoc : (xs : List Placed) (r : Placed) → segments_of (xs ++ r ∷ []) ≡ segments_of xs ++ segment_in r.what
 unfolding segments_of
@@ -48,27 +51,27 @@ unfolding failing known_of
 failing_snoc test k [] r = append-nil (when (test k r.what) r.at)
 failing_snoc test k (x ∷ xs) r = rw (failing_snoc test (learn k x.what) xs r, append_assoc)
 
-spot_snoc : (ats : List ℕ) (b : Bool) (at : ℕ) → spot_of (ats ++ when b at) ≡ first_spot (spot_of ats) b at
-spot_snoc [] true at = refl
-spot_snoc [] false at = refl
-spot_snoc (x ∷ xs) b at = refl
+first_snoc : (ats : List ℕ) (b : Bool) (at : ℕ) → first_of (ats ++ when b at) ≡ option_or (first_of ats) (then_some b at)
+first_snoc [] true at = refl
+first_snoc [] false at = refl
+first_snoc (x ∷ xs) b at = refl
 
 -- one record of which is learnt what it gives
 module _ (k : Known) where
   learn_frame : (r : Record) → (learn k r).frame ≡ frame_after k.frame r
-  learn_frame (Frame f) = refl
-  learn_frame (Job r b n) = refl
-  learn_frame (Segment l h m) = refl
+  learn_frame (Say.Frame f) = refl
+  learn_frame (Say.Job r b n) = refl
+  learn_frame (Say.Segment l h m) = refl
 
   learn_jobs : (at i : ℕ) (r : Record) → (learn k r).jobs ≡ k.jobs + length (job_in at i r)
-  learn_jobs at i (Frame f) = omega arith
-  learn_jobs at i (Job r b n) = refl
-  learn_jobs at i (Segment l h m) = omega arith
+  learn_jobs at i (Say.Frame f) = omega arith
+  learn_jobs at i (Say.Job r b n) = refl
+  learn_jobs at i (Say.Segment l h m) = omega arith
 
   learn_segments : (r : Record) → (learn k r).segments ≡ k.segments + length (segment_in r)
-  learn_segments (Frame f) = omega arith
-  learn_segments (Job r b n) = omega arith
-  learn_segments (Segment l h m) = refl
+  learn_segments (Say.Frame f) = omega arith
+  learn_segments (Say.Job r b n) = omega arith
+  learn_segments (Say.Segment l h m) = refl
 
 known_frame : (k : Known) (xs : List Placed) → (known_of k xs).frame ≡ frame_of k.frame xs
 unfolding known_of frame_of
@@ -104,70 +107,51 @@ known_by_lem xs = λ i. record {
 
 -- ---- rows of the table
 
-length_padded : (n : ℕ) (xs : List ℕ) → length (padded n xs) ≡ n
-unfolding padded
-length_padded zero xs = refl
-length_padded (suc n) [] = ap suc (length_padded n [])
-length_padded (suc n) (x ∷ xs) = ap suc (length_padded n xs)
+module _ {E : Type 0} (filler : E) where
+  length_padded : (n : ℕ) (xs : List E) → length (padded n filler xs) ≡ n
+  unfolding padded
+  length_padded zero xs = refl
+  length_padded (suc n) [] = ap suc (length_padded n [])
+  length_padded (suc n) (x ∷ xs) = ap suc (length_padded n xs)
 
-set_padded : (n : ℕ) (xs : List ℕ) (v : ℕ) → set (padded n xs) (length xs) v ≡ padded n (xs ++ v ∷ [])
-unfolding padded
-set_padded zero xs v = refl
-set_padded (suc n) [] v = refl
-set_padded (suc n) (x ∷ xs) v = ap (λ (l : List ℕ). x ∷ l) (set_padded n xs v)
+  set_padded : (n : ℕ) (xs : List E) (v : E) → set (padded n filler xs) (length xs) v ≡ padded n filler (xs ++ v ∷ [])
+  unfolding padded
+  set_padded zero xs v = refl
+  set_padded (suc n) [] v = refl
+  set_padded (suc n) (x ∷ xs) v = ap (λ (l : List E). x ∷ l) (set_padded n xs v)
 
-kept_set : (n : ℕ) (l : List ℕ) (i v : ℕ) → length l ≡ n → kept n l i v ≡ set l i v
-kept_set n l i v e = go (ltb i n) refl
-  where
-    go : (b : Bool) → ltb i n ≡ b → cond b (set l i v) l ≡ set l i v
-    go true q = refl
-    go false q = sym (set_out l i v (let h : n ≤ i = ltb-false i n q in omega arith))
+  kept_set : (n : ℕ) (l : List E) (i : ℕ) (v : E) → length l ≡ n → kept n l i v ≡ set l i v
+  kept_set n l i v e = go (ltb i n) refl
+    where
+      go : (b : Bool) → ltb i n ≡ b → cond b (set l i v) l ≡ set l i v
+      go true q = refl
+      go false q = sym (set_out l i v (let h : n ≤ i = ltb-false i n q in omega arith))
 
-row_more : {E : Type 0} (n : ℕ) (f : E → ℕ) (xs : List E) (v : E) → kept n (padded n (map f xs)) (length xs) (f v) ≡ padded n (map f (xs ++ v ∷ []))
-row_more n f xs v =
-    kept_set n (padded n (map f xs)) (length xs) (f v) (length_padded n (map f xs))
-    ∙ rw (map_app f xs (v ∷ []), ← length-map xs f) (set_padded n (map f xs) (f v))
+  row_more : (n : ℕ) (xs : List E) (v : E) → kept n (padded n filler xs) (length xs) v ≡ padded n filler (xs ++ v ∷ [])
+  row_more n xs v = kept_set n (padded n filler xs) (length xs) v (length_padded n xs) ∙ set_padded n xs v
 
 count_more : {E : Type 0} (xs : List E) (v : E) → length xs + 1 ≡ length (xs ++ v ∷ [])
 count_more xs v = rw (length-append xs (v ∷ []))
 
--- the table with another frame length, with one job more, and with one segment more
-frame_new : (g f : ℕ) (js : List JobEntry) (ss : List SegmentEntry) → with_frame (table_from g js ss) f ≡ table_from f js ss
-unfolding with_frame table_from
-frame_new g f js ss = refl
-
-job_more : (f : ℕ) (js : List JobEntry) (ss : List SegmentEntry) (e : JobEntry) → e.first ≡ length ss
-    → with_job (table_from f js ss) e.mark e.release e.base e.count ≡ table_from f (js ++ e ∷ []) ss
+-- the table with one job more, and with one segment more
+job_more : (f : ℕ) (js : List Job) (ss : List Segment) (v : Job) → with_job (table_from f js ss) v ≡ table_from f (js ++ v ∷ []) ss
 unfolding with_job table_from
-job_more f js ss e h = rw (← h) (λ i. record {
+job_more f js ss v = λ i. record {
   frame = f;
-  jobs = count_more js e i;
-  segments = e.first;
-  mark = row_more 32 (λ (x : JobEntry). x.mark) js e i;
-  release = row_more 32 (λ (x : JobEntry). x.release) js e i;
-  base = row_more 32 (λ (x : JobEntry). x.base) js e i;
-  first = row_more 32 (λ (x : JobEntry). x.first) js e i;
-  count = row_more 32 (λ (x : JobEntry). x.count) js e i;
-  shortest = padded 64 (map (λ (x : SegmentEntry). x.shortest) ss);
-  longest = padded 64 (map (λ (x : SegmentEntry). x.longest) ss);
-  held = padded 64 (map (λ (x : SegmentEntry). x.held) ss);
-})
+  jobs = count_more js v i;
+  segments = length ss;
+  job = row_more no_job 32 js v i;
+  segment = padded 64 no_segment ss;
+}
 
-segment_more : (f : ℕ) (js : List JobEntry) (ss : List SegmentEntry) (e : SegmentEntry)
-    → with_segment (table_from f js ss) e.shortest e.longest e.held ≡ table_from f js (ss ++ e ∷ [])
+segment_more : (f : ℕ) (js : List Job) (ss : List Segment) (v : Segment) → with_segment (table_from f js ss) v ≡ table_from f js (ss ++ v ∷ [])
 unfolding with_segment table_from
-segment_more f js ss e = λ i. record {
+segment_more f js ss v = λ i. record {
   frame = f;
   jobs = length js;
-  segments = count_more ss e i;
-  mark = padded 32 (map (λ (x : JobEntry). x.mark) js);
-  release = padded 32 (map (λ (x : JobEntry). x.release) js);
-  base = padded 32 (map (λ (x : JobEntry). x.base) js);
-  first = padded 32 (map (λ (x : JobEntry). x.first) js);
-  count = padded 32 (map (λ (x : JobEntry). x.count) js);
-  shortest = row_more 64 (λ (x : SegmentEntry). x.shortest) ss e i;
-  longest = row_more 64 (λ (x : SegmentEntry). x.longest) ss e i;
-  held = row_more 64 (λ (x : SegmentEntry). x.held) ss e i;
+  segments = count_more ss v i;
+  job = padded 32 no_job js;
+  segment = row_more no_segment 64 ss v i;
 }
 
 -- ---- the table and the scan of the records with one more
@@ -180,26 +164,26 @@ parts_snoc xs at r =
     let x : Placed = record { at = at; what = r } in rw (frame_snoc 0 xs x, jobs_snoc 0 xs x, segments_snoc xs x, zero-add)
 
 pub table_snoc : (xs : List Placed) (at : ℕ) (r : Record) → added (recorded xs) at r ≡ recorded (xs ++ record { at = at; what = r } ∷ [])
-unfolding added recorded
-table_snoc xs at (Frame f) = frame_new (frame_of 0 xs) f (jobs_of xs) (segments_of xs) ∙ (simp append-nil at (parts_snoc xs at (Frame f)))
-table_snoc xs at (Job r b n) =
-    job_more (frame_of 0 xs) (jobs_of xs) (segments_of xs) (record { mark = at; release = r; base = b; first = length (segments_of xs); count = n }) refl
-    ∙ (simp append-nil at (parts_snoc xs at (Job r b n)))
-table_snoc xs at (Segment l h m) =
+unfolding added recorded table_from
+table_snoc xs at (Say.Frame f) = simp append-nil at (parts_snoc xs at (Say.Frame f))
+table_snoc xs at (Say.Job r b n) =
+    job_more (frame_of 0 xs) (jobs_of xs) (segments_of xs) (record { mark = at; release = r; base = b; first = length (segments_of xs); count = n })
+    ∙ (simp append-nil at (parts_snoc xs at (Say.Job r b n)))
+table_snoc xs at (Say.Segment l h m) =
     segment_more (frame_of 0 xs) (jobs_of xs) (segments_of xs) (record { shortest = l; longest = h; held = m })
-    ∙ (simp append-nil at (parts_snoc xs at (Segment l h m)))
+    ∙ (simp append-nil at (parts_snoc xs at (Say.Segment l h m)))
 
-spot_more : (test : Known → Record → Bool) (xs : List Placed) (at : ℕ) (r : Record)
-    → first_spot (spot_of (failing test nothing xs)) (test (known_of nothing xs) r) at ≡ spot_of (failing test nothing (xs ++ record { at = at; what = r } ∷ []))
-spot_more test xs at r =
-    sym (spot_snoc (failing test nothing xs) (test (known_of nothing xs) r) at)
-    ∙ ap spot_of (sym (failing_snoc test nothing xs (record { at = at; what = r })))
+first_more : (test : Known → Record → Bool) (xs : List Placed) (at : ℕ) (r : Record)
+    → option_or (first_of (failing test nothing xs)) (then_some (test (known_of nothing xs) r) at) ≡ first_of (failing test nothing (xs ++ record { at = at; what = r } ∷ []))
+first_more test xs at r =
+    sym (first_snoc (failing test nothing xs) (test (known_of nothing xs) r) at)
+    ∙ ap first_of (sym (failing_snoc test nothing xs (record { at = at; what = r })))
 
 pub scan_snoc : (xs : List Placed) (at : ℕ) (r : Record) → scanned (scan_of xs) (known_of nothing xs) at r ≡ scan_of (xs ++ record { at = at; what = r } ∷ [])
 unfolding scanned scan_of
 scan_snoc xs at r = λ i. record {
   release = ap (λ (k : Known). k.release) (sym (known_snoc nothing xs (record { at = at; what = r }))) i;
-  faulty = spot_more outside xs at r i;
-  early = spot_more earlier xs at r i;
-  beyond = spot_more beyond xs at r i;
+  faulty = first_more outside xs at r i;
+  early = first_more earlier xs at r i;
+  beyond = first_more beyond xs at r i;
 }

@@ -1,4 +1,3 @@
-pub mod Laws
 pub mod Fold
 pub mod Walk
 pub mod Verdict

@@ -1,29 +1,30 @@
 -- Every accepted table is sound: its numbers are within their bounds, releases do not fall, and first segments add up.
 use Prim.Native.Nat.{ℕ, zero, suc, ◌+◌, ◌-◌, ◌<◌, ◌≤◌}
 use native.Mathlib.Omega.{arith}
-use mathlib.Core.Path.{◌≡◌, refl, sym, ◌∙◌}
-use mathlib.Core.List.{List, [], ◌∷◌, map}
-use mathlib.Core.Bool.{Bool, true, false, cond, ◌||◌, true≢false}
+use mathlib.Core.Path.{◌≡◌, refl}
+use mathlib.Core.List.{List, [], ◌∷◌}
+use mathlib.Core.Bool.{Bool, true, false, cond, ◌||◌}
 use lib.ListN.{length, get_or}
 use lib.Dec.{leb, ltb, eqb}
+use Rattle.std.specs.Prelude.{Some, Ok}
+use Rattle.std.specs.Prelude.{All}
+use Rattle.std.proofs.lemmas.Bool.{or_parts}
+use Rattle.std.proofs.lemmas.List.Elements.{All-nil, All-cons, All-get_or}
 use borrow.Author.Tests.{leb-false, ltb-false, eqb-false}
 use Rattle.table.specs.Records.{Placed, record_at, due, lacking, place_after, may_end, reading_of}
-use Rattle.table.specs.Table.{JobEntry, SegmentEntry, jobs_from, jobs_of, segments_of, frame_of, padded, table_from, recorded}
-use Rattle.table.specs.Refusal.{nothing, learn, outside, earlier, beyond, failing, refusal, outcome_of}
+use Rattle.table.specs.Table.{no_job, no_segment, the_job, the_segment, jobs_from, jobs_of, segments_of, frame_of, table_from, recorded}
+use Rattle.table.specs.Refusal.{nothing, learn, outside, earlier, beyond, failing, refusal, outcome_of, table_of}
 use Rattle.table.specs.Sound.{SoundJob, SoundSegment, Sound}
-use Rattle.table.specs.declared.Outcome.{Outcome}
+use Rattle.table.specs.declared.Job.{Job}
+use Rattle.table.specs.declared.Segment.{Segment}
+use Rattle.table.specs.declared.Table.{Table}
 use Rattle.table.specs.declared.scan.Known.{Known}
 use Rattle.table.specs.declared.records.Place.{Place}
 use Rattle.table.specs.declared.records.Place.TheVariants.{First, Next, Within}
 use Rattle.table.specs.declared.records.Record.{Record}
-use Rattle.table.specs.declared.records.Record.TheVariants.{Frame, Job, Segment}
-use Rattle.table.specs.declared.records.Answer.TheVariants.{Whole}
+use Rattle.table.specs.declared.records.Record.TheVariants as Say
 use Rattle.table.proofs.Walk.{marked_whole}
-use Rattle.table.proofs.Whole.{lacking_due, ended_lacks, not_frame, not_job, each, accepted, passes, get_d_padded, refusal_is, table_is}
-
-neither : (a b : Bool) → (a || b) ≡ false → (a ≡ false) × (b ≡ false)
-neither true b q = absurd (true≢false q)
-neither false b q = (refl, q)
+use Rattle.table.proofs.Whole.{lacking_due, ended_lacks, not_frame, not_job, each, accepted, passes, get_or_padded, ok_is, accepted_is}
 
 -- ---- how many there are at most
 
@@ -35,10 +36,10 @@ Room k rs = (i : ℕ) → (k.jobs + length (jobs_from i rs) ≤ 32) × (k.segmen
 room_step : (k : Known) (at : ℕ) (r : Record) (rs : List Placed) → k.jobs ≤ 32 → k.segments ≤ 64 → beyond k r ≡ false
     → ((learn k r).jobs ≤ 32 → (learn k r).segments ≤ 64 → Room (learn k r) rs) → Room k (record { at = at; what = r } ∷ rs)
 unfolding Room jobs_from segments_of
-room_step k at (Frame f) rs a b t ih i = let m = ih a b (i + 0) in (omega (arith, m.0), omega (arith, m.1))
-room_step k at (Job x y z) rs a b t ih i =
+room_step k at (Say.Frame f) rs a b t ih i = let m = ih a b (i + 0) in (omega (arith, m.0), omega (arith, m.1))
+room_step k at (Say.Job x y z) rs a b t ih i =
     let h = leb-false 32 k.jobs t in let m = ih (omega arith) b (i + 0) in (omega (arith, m.0), omega (arith, m.1))
-room_step k at (Segment x y z) rs a b t ih i =
+room_step k at (Say.Segment x y z) rs a b t ih i =
     let h = leb-false 64 k.segments t in let m = ih a (omega arith) (i + 1) in (omega (arith, m.0), omega (arith, m.1))
 
 room : (k : Known) (rs : List Placed) → k.jobs ≤ 32 → k.segments ≤ 64 → failing beyond k rs ≡ [] → Room k rs
@@ -71,19 +72,19 @@ later_due n = go (eqb n 0)
     go false = tt
 
 -- where a job or a segment is due no FR record is read
-no_frame : (p : Place) (s : List ℕ) (f : ℕ) → Later p → record_at p s ≡ Whole (Frame f) → ⊥
+no_frame : (p : Place) (s : List ℕ) (f : ℕ) → Later p → record_at p s ≡ Some (Say.Frame f) → ⊥
 unfolding record_at
 no_frame First s f h e = h
-no_frame Next s f h e = let q = (marked_whole s _ _ _ _ e).0 in let z : ◌≡◌ {A = ℕ} 0 1 = cc in omega arith
+no_frame Next s f h e = let q = (marked_whole s _ _ _ _ e).0 in cc
 no_frame (Within n) s f h e = not_frame n s f e
 
 -- where another record is read, no segment was due; a segment is read only where one was due
-job_lacks : (p : Place) (s : List ℕ) (a b m : ℕ) → record_at p s ≡ Whole (Job a b m) → lacking p ≡ 0
+job_lacks : (p : Place) (s : List ℕ) (a b m : ℕ) → record_at p s ≡ Some (Say.Job a b m) → lacking p ≡ 0
 job_lacks First s a b m e = refl
 job_lacks Next s a b m e = refl
 job_lacks (Within n) s a b m e = absurd (not_job n s a b m e)
 
-frame_lacks : (p : Place) (s : List ℕ) (f : ℕ) → record_at p s ≡ Whole (Frame f) → lacking p ≡ 0
+frame_lacks : (p : Place) (s : List ℕ) (f : ℕ) → record_at p s ≡ Some (Say.Frame f) → lacking p ≡ 0
 frame_lacks First s f e = refl
 frame_lacks Next s f e = refl
 frame_lacks (Within n) s f e = absurd (not_frame n s f e)
@@ -101,45 +102,34 @@ proper_due n = go (eqb n 0) refl
     go true q = tt
     go false q = let d = eqb-false n 0 q in omega arith
 
-segment_lacks : (p : Place) (s : List ℕ) (a b m : ℕ) → Proper p → record_at p s ≡ Whole (Segment a b m) → 0 < lacking p
+segment_lacks : (p : Place) (s : List ℕ) (a b m : ℕ) → Proper p → record_at p s ≡ Some (Say.Segment a b m) → 0 < lacking p
 unfolding record_at
-segment_lacks First s a b m h e = let q = (marked_whole s _ _ _ _ e).0 in let z : ◌≡◌ {A = ℕ} 0 1 = cc in omega arith
-segment_lacks Next s a b m h e = let q = (marked_whole s _ _ _ _ e).0 in let z : ◌≡◌ {A = ℕ} 0 1 = cc in omega arith
+segment_lacks First s a b m h e = let q = (marked_whole s _ _ _ _ e).0 in cc
+segment_lacks Next s a b m h e = let q = (marked_whole s _ _ _ _ e).0 in cc
 segment_lacks (Within n) s a b m h e = h
 
--- ---- the entries that records give
-
-abbrev SoundEntry : ℕ → JobEntry → Type 0
-SoundEntry frame e = SoundJob frame e.release e.base e.count
-
-abbrev SoundPiece : SegmentEntry → Type 0
-SoundPiece e = SoundSegment e.shortest e.longest
-
--- all of a list
-abbrev All : {E : Type 0} → (E → Type 0) → List E → Type 0
-All P [] = Unit {0}
-All P (e ∷ es) = P e × All P es
+-- ---- the jobs and segments that records give
 
 -- releases do not fall, from r on
-abbrev Rising : ℕ → List JobEntry → Type 0
+abbrev Rising : ℕ → List Job → Type 0
 Rising r [] = Unit {0}
 Rising r (e ∷ es) = (r ≤ e.release) × Rising e.release es
 
 -- first segments add up, from i to n
-abbrev Chain : ℕ → List JobEntry → ℕ → Type 0
+abbrev Chain : ℕ → List Job → ℕ → Type 0
 Chain i [] n = i ≡ n
 Chain i (e ∷ es) n = (e.first ≡ i) × Chain (i + e.count) es n
 
-chain_same : (i i' n n' : ℕ) (es : List JobEntry) → i ≡ i' → n ≡ n' → Chain i es n → Chain i' es n'
+chain_same : (i i' n n' : ℕ) (es : List Job) → i ≡ i' → n ≡ n' → Chain i es n → Chain i' es n'
 chain_same i i' n n' es a b c = rw (← a, ← b) c
 
 -- a record within its bounds
-sound_job : (k : Known) (a b m : ℕ) → outside k (Job a b m) ≡ false → SoundJob k.frame a b m
-sound_job k a b m q =
-    let e4 = neither (leb k.frame a || ltb b 1 || ltb 200 b || ltb m 1) (ltb 8 m) q in
-    let e3 = neither (leb k.frame a || ltb b 1 || ltb 200 b) (ltb m 1) e4.0 in
-    let e2 = neither (leb k.frame a || ltb b 1) (ltb 200 b) e3.0 in
-    let e1 = neither (leb k.frame a) (ltb b 1) e2.0 in
+sound_job : (k : Known) (a b m : ℕ) → outside k (Say.Job a b m) ≡ false → (at i : ℕ) → SoundJob k.frame (record { mark = at; release = a; base = b; first = i; count = m })
+sound_job k a b m q at i =
+    let e4 = or_parts (leb k.frame a || ltb b 1 || ltb 200 b || ltb m 1) (ltb 8 m) q in
+    let e3 = or_parts (leb k.frame a || ltb b 1 || ltb 200 b) (ltb m 1) e4.0 in
+    let e2 = or_parts (leb k.frame a || ltb b 1) (ltb 200 b) e3.0 in
+    let e1 = or_parts (leb k.frame a) (ltb b 1) e2.0 in
     record {
       released = leb-false k.frame a e1.0;
       base_some = ltb-false b 1 e1.1;
@@ -148,10 +138,10 @@ sound_job k a b m q =
       count_most = ltb-false 8 m e4.1;
     }
 
-sound_segment : (k : Known) (a b m : ℕ) → outside k (Segment a b m) ≡ false → SoundSegment a b
+sound_segment : (k : Known) (a b m : ℕ) → outside k (Say.Segment a b m) ≡ false → SoundSegment (record { shortest = a; longest = b; held = m })
 sound_segment k a b m q =
-    let e2 = neither (ltb a 1 || ltb b a) (ltb 1000000 b) q in
-    let e1 = neither (ltb a 1) (ltb b a) e2.0 in
+    let e2 = or_parts (ltb a 1 || ltb b a) (ltb 1000000 b) q in
+    let e1 = or_parts (ltb a 1) (ltb b a) e2.0 in
     record { some = ltb-false a 1 e1.0; order = ltb-false b a e1.1; most = ltb-false 1000000 b e2.1 }
 
 -- ---- what a whole reading keeps, from a place on
@@ -159,8 +149,8 @@ sound_segment k a b m q =
 record Keeps (p : Place) (rs : List Placed) : Type 0 where
   frame : Later p → (g : ℕ) → frame_of g rs ≡ g
   frame_most : (k : Known) → failing outside k rs ≡ [] → k.frame ≤ 1000000 → frame_of k.frame rs ≤ 1000000
-  jobs : (k : Known) (i : ℕ) → failing outside k rs ≡ [] → All (SoundEntry (frame_of k.frame rs)) (jobs_from i rs)
-  segments : (k : Known) → failing outside k rs ≡ [] → All SoundPiece (segments_of rs)
+  jobs : (k : Known) (i : ℕ) → failing outside k rs ≡ [] → All (SoundJob (frame_of k.frame rs)) (jobs_from i rs)
+  segments : (k : Known) → failing outside k rs ≡ [] → All SoundSegment (segments_of rs)
   rising : (k : Known) (i : ℕ) → failing earlier k rs ≡ [] → Rising k.release (jobs_from i rs)
   chain : Proper p → (i : ℕ) → Chain (i + lacking p) (jobs_from i rs) (i + length (segments_of rs))
 
@@ -169,88 +159,67 @@ unfolding frame_of segments_of jobs_from
 keeps_base p e = record {
   frame = λ h g. refl;
   frame_most = λ k q h. h;
-  jobs = λ k i q. tt;
-  segments = λ k q. tt;
+  jobs = λ k i q. All-nil _;
+  segments = λ k q. All-nil _;
   rising = λ k i q. tt;
   chain = λ h i. omega (arith, ended_lacks p e);
 }
 
-keeps_step : (p : Place) (at : ℕ) (s : List ℕ) (r : Record) (rs : List Placed) → record_at p s ≡ Whole r → Keeps (place_after p r) rs → Keeps p (record { at = at; what = r } ∷ rs)
+keeps_step : (p : Place) (at : ℕ) (s : List ℕ) (r : Record) (rs : List Placed) → record_at p s ≡ Some r → Keeps (place_after p r) rs → Keeps p (record { at = at; what = r } ∷ rs)
 unfolding frame_of segments_of jobs_from failing
-keeps_step p at s (Frame f) rs e q = record {
+keeps_step p at s (Say.Frame f) rs e q = record {
   frame = λ h g. absurd (no_frame p s f h e);
   frame_most = λ k x h.
-      let (t, y) = passes (outside k (Frame f)) at _ x in
-      q.frame_most (learn k (Frame f)) y (ltb-false 1000000 f (neither (ltb f 1) (ltb 1000000 f) t).1);
-  jobs = λ k i x. q.jobs (learn k (Frame f)) (i + 0) (passes (outside k (Frame f)) at _ x).1;
-  segments = λ k x. q.segments (learn k (Frame f)) (passes (outside k (Frame f)) at _ x).1;
-  rising = λ k i x. q.rising (learn k (Frame f)) (i + 0) x;
+      let (t, y) = passes (outside k (Say.Frame f)) at _ x in
+      q.frame_most (learn k (Say.Frame f)) y (ltb-false 1000000 f (or_parts (ltb f 1) (ltb 1000000 f) t).1);
+  jobs = λ k i x. q.jobs (learn k (Say.Frame f)) (i + 0) (passes (outside k (Say.Frame f)) at _ x).1;
+  segments = λ k x. q.segments (learn k (Say.Frame f)) (passes (outside k (Say.Frame f)) at _ x).1;
+  rising = λ k i x. q.rising (learn k (Say.Frame f)) (i + 0) x;
   chain = λ h i. chain_same (i + 0 + 0) (i + lacking p) (i + 0 + length (segments_of rs)) (i + length (segments_of rs)) (jobs_from (i + 0) rs) (omega (arith, frame_lacks p s f e)) (omega arith) (q.chain tt (i + 0));
 }
-keeps_step p at s (Job a b m) rs e q = record {
+keeps_step p at s (Say.Job a b m) rs e q = record {
   frame = λ h g. q.frame (later_due m) g;
-  frame_most = λ k x h. q.frame_most (learn k (Job a b m)) (passes (outside k (Job a b m)) at _ x).1 h;
+  frame_most = λ k x h. q.frame_most (learn k (Say.Job a b m)) (passes (outside k (Say.Job a b m)) at _ x).1 h;
   jobs = λ k i x.
-      let (t, y) = passes (outside k (Job a b m)) at _ x in
-      (rw (q.frame (later_due m) k.frame) (sound_job k a b m t), q.jobs (learn k (Job a b m)) (i + 0) y);
-  segments = λ k x. q.segments (learn k (Job a b m)) (passes (outside k (Job a b m)) at _ x).1;
+      let (t, y) = passes (outside k (Say.Job a b m)) at _ x in
+      All-cons (SoundJob (frame_of k.frame rs)) _ _ (rw (q.frame (later_due m) k.frame) (sound_job k a b m t at i)) (q.jobs (learn k (Say.Job a b m)) (i + 0) y);
+  segments = λ k x. q.segments (learn k (Say.Job a b m)) (passes (outside k (Say.Job a b m)) at _ x).1;
   rising = λ k i x.
-      let (t, y) = passes (earlier k (Job a b m)) at _ x in (ltb-false a k.release t, q.rising (learn k (Job a b m)) (i + 0) y);
+      let (t, y) = passes (earlier k (Say.Job a b m)) at _ x in (ltb-false a k.release t, q.rising (learn k (Say.Job a b m)) (i + 0) y);
   chain = λ h i. (
     omega (arith, job_lacks p s a b m e),
     chain_same (i + 0 + lacking (due m)) (i + lacking p + m) (i + 0 + length (segments_of rs)) (i + length (segments_of rs)) (jobs_from (i + 0) rs) (omega (arith, job_lacks p s a b m e, lacking_due m)) (omega arith) (q.chain (proper_due m) (i + 0)),
   );
 }
-keeps_step p at s (Segment a b m) rs e q = record {
+keeps_step p at s (Say.Segment a b m) rs e q = record {
   frame = λ h g. q.frame (later_due (lacking p - 1)) g;
-  frame_most = λ k x h. q.frame_most (learn k (Segment a b m)) (passes (outside k (Segment a b m)) at _ x).1 h;
-  jobs = λ k i x. q.jobs (learn k (Segment a b m)) (i + 1) (passes (outside k (Segment a b m)) at _ x).1;
+  frame_most = λ k x h. q.frame_most (learn k (Say.Segment a b m)) (passes (outside k (Say.Segment a b m)) at _ x).1 h;
+  jobs = λ k i x. q.jobs (learn k (Say.Segment a b m)) (i + 1) (passes (outside k (Say.Segment a b m)) at _ x).1;
   segments = λ k x.
-      let (t, y) = passes (outside k (Segment a b m)) at _ x in (sound_segment k a b m t, q.segments (learn k (Segment a b m)) y);
-  rising = λ k i x. q.rising (learn k (Segment a b m)) (i + 1) x;
+      let (t, y) = passes (outside k (Say.Segment a b m)) at _ x in All-cons SoundSegment _ _ (sound_segment k a b m t) (q.segments (learn k (Say.Segment a b m)) y);
+  rising = λ k i x. q.rising (learn k (Say.Segment a b m)) (i + 1) x;
   chain = λ h i. chain_same (i + 1 + lacking (due (lacking p - 1))) (i + lacking p) (i + 1 + length (segments_of rs)) (i + suc (length (segments_of rs))) (jobs_from (i + 1) rs) (omega (arith, segment_lacks p s a b m h e, lacking_due (lacking p - 1))) (omega arith) (q.chain (proper_due (lacking p - 1)) (i + 1));
 }
 
--- ---- from lists of entries to the rows of the table
+-- ---- from the lists to the rows of the table
 
--- of all entries, the one at an index
-all_at : {E : Type 0} (P : E → Type 0) (es : List E) (none : E) → All P es → (j : ℕ) → j < length es → P (get_or es j none)
-all_at P [] none a j h = absurd (omega arith)
-all_at P (e ∷ es) none a zero h = a.0
-all_at P (e ∷ es) none a (suc j) h = all_at P es none a.1 j (omega arith)
-
-get_d_map : {E : Type 0} (f : E → ℕ) (es : List E) (none : E) (j : ℕ) → j < length es → get_or (map f es) j 0 ≡ f (get_or es j none)
-get_d_map f [] none j h = absurd (omega arith)
-get_d_map f (e ∷ es) none zero h = refl
-get_d_map f (e ∷ es) none (suc j) h = get_d_map f es none j (omega arith)
-
--- a row at an entry that the list has
-row : {E : Type 0} (n : ℕ) (f : E → ℕ) (es : List E) (none : E) → length es ≤ n → (j : ℕ) → j < length es → get_or (padded n (map f es)) j 0 ≡ f (get_or es j none)
-row n f es none l j h = get_d_padded n (map f es) j (omega arith) ∙ get_d_map f es none j h
-
-nobody : JobEntry
-nobody = record { mark = 0; release = 0; base = 0; first = 0; count = 0 }
-
-nothing_held : SegmentEntry
-nothing_held = record { shortest = 0; longest = 0; held = 0 }
-
-rising_at : (r : ℕ) (es : List JobEntry) → Rising r es → (j : ℕ) → suc j < length es → (get_or es j nobody).release ≤ (get_or es (suc j) nobody).release
+rising_at : (r : ℕ) (es : List Job) → Rising r es → (j : ℕ) → suc j < length es → (get_or es j no_job).release ≤ (get_or es (suc j) no_job).release
 rising_at r [] a j h = absurd (omega arith)
 rising_at r (e ∷ []) a j h = absurd (omega arith)
 rising_at r (e ∷ d ∷ es) a zero h = a.1.0
 rising_at r (e ∷ d ∷ es) a (suc j) h = rising_at e.release (d ∷ es) a.1 j (omega arith)
 
-chain_first : (i n : ℕ) (es : List JobEntry) → Chain i es n → 0 < length es → (get_or es 0 nobody).first ≡ i
+chain_first : (i n : ℕ) (es : List Job) → Chain i es n → 0 < length es → (get_or es 0 no_job).first ≡ i
 chain_first i n [] c h = absurd (omega arith)
 chain_first i n (e ∷ es) c h = c.0
 
-chain_next : (i n : ℕ) (es : List JobEntry) → Chain i es n → (j : ℕ) → suc j < length es → (get_or es (suc j) nobody).first ≡ (get_or es j nobody).first + (get_or es j nobody).count
+chain_next : (i n : ℕ) (es : List Job) → Chain i es n → (j : ℕ) → suc j < length es → (get_or es (suc j) no_job).first ≡ (get_or es j no_job).first + (get_or es j no_job).count
 chain_next i n [] c j h = absurd (omega arith)
 chain_next i n (e ∷ []) c j h = absurd (omega arith)
 chain_next i n (e ∷ d ∷ es) c zero h = rw c.0 c.1.0
 chain_next i n (e ∷ d ∷ es) c (suc j) h = chain_next (i + e.count) n (d ∷ es) c.1 j (omega arith)
 
-chain_last : (i n : ℕ) (es : List JobEntry) → Chain i es n → (j : ℕ) → suc j ≡ length es → (get_or es j nobody).first + (get_or es j nobody).count ≡ n
+chain_last : (i n : ℕ) (es : List Job) → Chain i es n → (j : ℕ) → suc j ≡ length es → (get_or es j no_job).first + (get_or es j no_job).count ≡ n
 chain_last i n [] c j h = absurd (omega arith)
 chain_last i n (e ∷ []) c zero h = rw c.0 c.1
 chain_last i n (e ∷ []) c (suc j) h = absurd (omega arith)
@@ -263,10 +232,10 @@ module _ (s : List ℕ) (z : (refusal s).number ≡ 0) where
   abbrev rs : List Placed
   rs = (reading_of s).records
 
-  abbrev js : List JobEntry
+  abbrev js : List Job
   js = jobs_of rs
 
-  abbrev ss : List SegmentEntry
+  abbrev ss : List Segment
   ss = segments_of rs
 
   keeps : Keeps First (reading_of s).records
@@ -277,11 +246,13 @@ module _ (s : List ℕ) (z : (refusal s).number ≡ 0) where
   chain = chain_same (0 + 0) 0 (0 + length ss) (length ss) js (omega arith) (omega arith) (keeps.chain tt 0)
 
   -- the rows of the jobs and of the segments
-  job_row : (f : JobEntry → ℕ) (j : ℕ) → j < length js → get_or (padded 32 (map f js)) j 0 ≡ f (get_or js j nobody)
-  job_row f j h = row 32 f js nobody (table_room s z).0 j h
+  job_row : (j : ℕ) → j < length js → the_job (recorded rs) j ≡ get_or js j no_job
+  unfolding recorded table_from
+  job_row j h = let m = (table_room s z).0 in get_or_padded 32 no_job js j (omega arith)
 
-  segment_row : (f : SegmentEntry → ℕ) (j : ℕ) → j < length ss → get_or (padded 64 (map f ss)) j 0 ≡ f (get_or ss j nothing_held)
-  segment_row f j h = row 64 f ss nothing_held (table_room s z).1 j h
+  segment_row : (k : ℕ) → k < length ss → the_segment (recorded rs) k ≡ get_or ss k no_segment
+  unfolding recorded table_from
+  segment_row k h = let m = (table_room s z).1 in get_or_padded 64 no_segment ss k (omega arith)
 
   some_job : 0 < length js
   some_job = let d = (accepted s z).some in omega arith
@@ -293,19 +264,17 @@ module _ (s : List ℕ) (z : (refusal s).number ≡ 0) where
     jobs_most = (table_room s z).0;
     segments_most = (table_room s z).1;
     frame_most = keeps.frame_most nothing (accepted s z).bounds (omega arith);
-    job = λ j h. rw (job_row (λ (e : JobEntry). e.release) j h, job_row (λ (e : JobEntry). e.base) j h, job_row (λ (e : JobEntry). e.count) j h)
-        (all_at (SoundEntry (frame_of 0 rs)) js nobody (keeps.jobs nothing 0 (accepted s z).bounds) j h);
-    segment = λ k h. rw (segment_row (λ (e : SegmentEntry). e.shortest) k h, segment_row (λ (e : SegmentEntry). e.longest) k h)
-        (all_at SoundPiece ss nothing_held (keeps.segments nothing (accepted s z).bounds) k h);
-    order = λ j h. rw (job_row (λ (e : JobEntry). e.release) j (omega arith), job_row (λ (e : JobEntry). e.release) (suc j) h)
-        (rising_at 0 js (keeps.rising nothing 0 (accepted s z).order) j h);
-    first = job_row (λ (e : JobEntry). e.first) 0 some_job ∙ chain_first 0 (length ss) js chain some_job;
-    next = λ j h. rw (job_row (λ (e : JobEntry). e.first) (suc j) h, job_row (λ (e : JobEntry). e.first) j (omega arith), job_row (λ (e : JobEntry). e.count) j (omega arith))
-        (chain_next 0 (length ss) js chain j h);
-    last = λ j h. rw (job_row (λ (e : JobEntry). e.first) j (omega arith), job_row (λ (e : JobEntry). e.count) j (omega arith))
-        (chain_last 0 (length ss) js chain j h);
+    job = λ j h. rw (job_row j h) (All-get_or (SoundJob (frame_of 0 rs)) js j no_job h (keeps.jobs nothing 0 (accepted s z).bounds));
+    segment = λ k h. rw (segment_row k h) (All-get_or SoundSegment ss k no_segment h (keeps.segments nothing (accepted s z).bounds));
+    order = λ j h. rw (job_row j (omega arith), job_row (suc j) h) (rising_at 0 js (keeps.rising nothing 0 (accepted s z).order) j h);
+    first = rw (job_row 0 some_job) (chain_first 0 (length ss) js chain some_job);
+    next = λ j h. rw (job_row (suc j) h, job_row j (omega arith)) (chain_next 0 (length ss) js chain j h);
+    last = λ j h. rw (job_row j (omega arith)) (chain_last 0 (length ss) js chain j h);
   }
 
 -- for a caller of `Table::read`
-pub sound_outcome : (s : List ℕ) (o : Outcome) → o ≡ outcome_of s → o.refusal ≡ 0 → Sound o.table
-sound_outcome s o e z = rw (table_is s o e z) (sound_rows s (sym (refusal_is s o e) ∙ z))
+pub sound_outcome : (s : List ℕ) (t : Table) → Ok t ≡ outcome_of s → Sound t
+sound_outcome s t e = let (z, q) = ok_is s t e in rw q (sound_rows s z)
+
+pub sound_table : (s : List ℕ) → (refusal s).number ≡ 0 → Sound (table_of s)
+sound_table s z = rw (accepted_is s z) (sound_rows s z)

@@ -1,113 +1,79 @@
--- Which refusal a reading draws: a law for each case, over what the code tests.
-use Prim.Native.Nat.{ℕ, ◌<◌, ◌≤◌}
+-- Which refusal a reading draws: what the code judges by what it kept of the records is the answer to the reading.
+use Prim.Native.Nat.{ℕ, ◌-◌, ◌<◌, ◌≤◌}
 use native.Mathlib.Omega.{arith}
 use mathlib.Core.Path.{◌≡◌, refl, sym, ◌∙◌, ap}
-use mathlib.Core.List.{List, [], ◌∷◌}
-use mathlib.Core.Bool.{true, false}
-use lib.ListN.{length}
+use mathlib.Core.List.{List, [], ◌∷◌, ◌++◌}
+use mathlib.Core.Bool.{Bool, true, false, cond}
+use lib.ListN.{length, take, drop}
 use lib.Dec.{eqb}
-use borrow.Author.Tests.{le-ltb, lt-ltb, eq-eqb, ne_eqb}
-use Rattle.table.specs.Records.{Placed, may_end, reading_of}
+use borrow.Author.Tests.{le-ltb, lt-ltb}
+use Rattle.std.specs.Prelude.{None, Result, Ok, Err}
+use Rattle.table.specs.Records.{record_at, Placed, Reading, may_end, reading_of}
 use Rattle.table.specs.Table.{jobs_of, table_from, recorded}
-use Rattle.table.specs.Refusal.{nothing, outside, earlier, beyond, failing, Refusal, or_else, refusal_in, refusal, answer, outcome_of}
-use Rattle.table.specs.Steps.{spot_of, scan_of, ended_at, answer_to}
-use Rattle.table.specs.declared.Outcome.{Outcome}
+use Rattle.table.specs.Refusal.{nothing, outside, earlier, beyond, when, failing, or_else, refusal_in, refusal, answer, outcome_of}
+use Rattle.table.specs.Steps.{known_of, first_of, scan_of, ended_at, judged}
+use Rattle.table.specs.declared.Fault.TheVariants.{Unreadable}
+use Rattle.table.specs.declared.Refused.{Refused}
 use Rattle.table.specs.declared.Table.{Table}
 use Rattle.table.specs.declared.scan.Scan.{Scan}
-use Rattle.table.specs.declared.scan.Spot.{Spot}
-use Rattle.table.specs.declared.scan.Spot.TheVariants.{Nowhere, At}
 use Rattle.table.specs.declared.records.Place.{Place}
+use Rattle.table.proofs.Walk.{Went, stop, told, finish}
 
--- a place that was kept decides; where none was kept there is none
-spot_at : (n at : ℕ) (ats : List ℕ) (later : Refusal) → spot_of ats ≡ At at → or_else n ats later ≡ record { number = n; place = at }
-spot_at n at [] later e = absurd (let z : ◌≡◌ {A = ℕ} 0 1 = cc in omega arith)
-spot_at n at (x ∷ xs) later e = let q : x ≡ at = cc in rw q
+-- a table, where it is not refused
+if_judged : Table → Result (Unit {0}) Refused → Result Table Refused
+if_judged t (Ok u) = Ok t
+if_judged t (Err r) = Err r
 
-spot_no : (ats : List ℕ) → spot_of ats ≡ Nowhere → ats ≡ []
-spot_no [] e = refl
-spot_no (x ∷ xs) e = absurd (let z : ◌≡◌ {A = ℕ} 0 1 = cc in omega arith)
+-- the first place of each kind decides
+decided : (t : Table) (whole none : Bool) (a b d : List ℕ) (release jobs end : ℕ) → eqb jobs 0 ≡ none
+    → if_judged t (judged whole (record { release = release; faulty = first_of a; early = first_of b; beyond = first_of d }) jobs end)
+    ≡ answer (or_else 1 (cond whole [] (end ∷ [])) (or_else 2 a (or_else 3 b (or_else 4 (when none end ++ d) (record { number = 0; place = 0 }))))) t
+unfolding if_judged answer
+decided t false none a b d release jobs end e = refl
+decided t true none (x ∷ a) b d release jobs end e = refl
+decided t true none [] (x ∷ b) d release jobs end e = refl
+decided t true true [] [] d release jobs end e = rw e refl
+decided t true false [] [] (x ∷ d) release jobs end e = rw e refl
+decided t true false [] [] [] release jobs end e = rw e refl
 
-module _ (rs : List Placed) (p : Place) (end : ℕ) (t : Table) (x : Scan) (et : t ≡ recorded rs) (ex : x ≡ scan_of rs) where
-  is_faulty : (s : Spot) → x.faulty ≡ s → spot_of (failing outside nothing rs) ≡ s
-  unfolding scan_of
-  is_faulty s e = ap (λ (y : Scan). y.faulty) (sym ex) ∙ e
-
-  is_early : (s : Spot) → x.early ≡ s → spot_of (failing earlier nothing rs) ≡ s
-  unfolding scan_of
-  is_early s e = ap (λ (y : Scan). y.early) (sym ex) ∙ e
-
-  is_beyond : (s : Spot) → x.beyond ≡ s → spot_of (failing beyond nothing rs) ≡ s
-  unfolding scan_of
-  is_beyond s e = ap (λ (y : Scan). y.beyond) (sym ex) ∙ e
-
-  is_jobs : length (jobs_of rs) ≡ t.jobs
-  unfolding recorded table_from
-  is_jobs = ap (λ (y : Table). y.jobs) (sym et)
-
-  abbrev Draws : ℕ → ℕ → Type 0
-  Draws n at = refusal_in end (ended_at rs p end) ≡ record { number = n; place = at }
-
-  -- an answer with the refusal that the reading draws
-  pub drawn : (n at : ℕ) (r : Outcome) → Draws n at → r ≡ answer (record { number = n; place = at }) t → r ≡ answer_to end (ended_at rs p end)
-  unfolding answer_to ended_at
-  drawn n at r d e = e ∙ rw (et, d)
-
-  pub one : may_end p ≡ false → Draws 1 end
-  unfolding refusal_in ended_at
-  one h = rw h
-
-  module _ (whole : may_end p ≡ true) where
-    pub two : (at : ℕ) → x.faulty ≡ At at → Draws 2 at
-    unfolding refusal_in ended_at
-    two at a = rw whole (spot_at 2 at (failing outside nothing rs) _ (is_faulty (At at) a))
-
-    module _ (a : x.faulty ≡ Nowhere) where
-      pub three : (at : ℕ) → x.early ≡ At at → Draws 3 at
-      unfolding refusal_in ended_at
-      three at b = rw (whole, spot_no (failing outside nothing rs) (is_faulty Nowhere a)) (spot_at 3 at (failing earlier nothing rs) _ (is_early (At at) b))
-
-      module _ (b : x.early ≡ Nowhere) where
-        pub four_none : t.jobs ≡ 0 → Draws 4 end
-        unfolding refusal_in ended_at
-        four_none d = rw (
-          whole,
-          spot_no (failing outside nothing rs) (is_faulty Nowhere a),
-          spot_no (failing earlier nothing rs) (is_early Nowhere b),
-          eq-eqb (length (jobs_of rs)) 0 (is_jobs ∙ d),
-        )
-
-        module _ (d : t.jobs ≡ 0 → ⊥) where
-          some : eqb (length (jobs_of rs)) 0 ≡ false
-          some = ne_eqb (length (jobs_of rs)) 0 (λ q. d (sym is_jobs ∙ q))
-
-          pub four : (at : ℕ) → x.beyond ≡ At at → Draws 4 at
-          unfolding refusal_in ended_at
-          four at e = rw (whole, spot_no (failing outside nothing rs) (is_faulty Nowhere a), spot_no (failing earlier nothing rs) (is_early Nowhere b), some)
-              (spot_at 4 at (failing beyond nothing rs) _ (is_beyond (At at) e))
-
-          pub none : x.beyond ≡ Nowhere → Draws 0 0
-          unfolding refusal_in ended_at
-          none e = rw (
-            whole,
-            spot_no (failing outside nothing rs) (is_faulty Nowhere a),
-            spot_no (failing earlier nothing rs) (is_early Nowhere b),
-            some,
-            spot_no (failing beyond nothing rs) (is_beyond Nowhere e),
-          )
+judged_so : (rs : List Placed) (p : Place) (end : ℕ) → if_judged (recorded rs) (judged (may_end p) (scan_of rs) (recorded rs).jobs end) ≡ answer (refusal_in end (ended_at rs p end)) (recorded rs)
+unfolding refusal_in ended_at scan_of recorded table_from
+judged_so rs p end =
+    decided (recorded rs) (may_end p) (eqb (length (jobs_of rs)) 0) (failing outside nothing rs) (failing earlier nothing rs) (failing beyond nothing rs) (known_of nothing rs).release (length (jobs_of rs)) end refl
 
 -- the whole answer, by the length
-pub too_long : (s : List ℕ) → 4096 < length s → answer (record { number = 1; place = 4096 }) (recorded (reading_of s).records) ≡ outcome_of s
-unfolding outcome_of refusal
+pub too_long : (s : List ℕ) → 4096 < length s → Err (record { fault = Unreadable; place = 4096 }) ≡ outcome_of s
+unfolding outcome_of refusal answer
 too_long s h = rw (lt-ltb 4096 (length s) h)
 
-pub not_long : (s : List ℕ) → length s ≤ 4096 → answer_to (length s) (reading_of s) ≡ outcome_of s
-unfolding outcome_of refusal answer_to
+pub not_long : (s : List ℕ) → length s ≤ 4096 → answer (refusal_in (length s) (reading_of s)) (recorded (reading_of s).records) ≡ outcome_of s
+unfolding outcome_of refusal
 not_long s h = rw (le-ltb 4096 (length s) h)
 
 pub not_whole : (s : List ℕ) (at : ℕ) → length s ≤ 4096 → ((reading_of s).whole ≡ false) × ((reading_of s).stop ≡ at)
-    → answer (record { number = 1; place = at }) (recorded (reading_of s).records) ≡ outcome_of s
-unfolding answer_to
-not_whole s at h e = ap (λ (n : Refusal). answer n (recorded (reading_of s).records)) (sym cut) ∙ not_long s h
-  where
-    cut : refusal_in (length s) (reading_of s) ≡ record { number = 1; place = at }
-    cut = unfold refusal_in in rw (e.0, e.1)
+    → Err (record { fault = Unreadable; place = at }) ≡ outcome_of s
+unfolding refusal_in answer
+not_whole s at h e = sym (rw (e.0, e.1)) ∙ not_long s h
+
+-- where a record cannot be read
+pub cut_off : {s : List ℕ} {t : Table} {x : Scan} {p : Place} {at : ℕ} → Went s t x p at → at < length s → length s ≤ 4096
+    → None ≡ record_at p (take (length s - at) (drop at s)) → Err (record { fault = Unreadable; place = at }) ≡ outcome_of s
+cut_off {s} {t} {x} {p} {at} w h l e = not_whole s at l (stop w h (told s at p None e))
+
+-- at the end of the bytes
+module _ {s : List ℕ} {t : Table} {x : Scan} {p : Place} {at : ℕ} (w : Went s t x p at) (h : length s ≤ at) (l : length s ≤ 4096) where
+  drawn : if_judged t (judged (may_end p) x t.jobs at) ≡ outcome_of s
+  unfolding ended_at
+  drawn = rw (w.table, w.scan) (judged_so w.done p at)
+      ∙ ap (λ (n : ℕ). answer (refusal_in n (ended_at w.done p at)) (recorded w.done)) (let e : at ≡ length s = omega (arith, w.inside) in e)
+      ∙ ap (λ (y : Reading). answer (refusal_in (length s) y) (recorded y.records)) (sym (finish w h))
+      ∙ not_long s l
+
+  -- a table that is judged whole, and one that is refused
+  pub passed : (u : Unit {0}) → Ok u ≡ judged (may_end p) x t.jobs at → Ok t ≡ outcome_of s
+  unfolding if_judged
+  passed u e = ap (if_judged t) e ∙ drawn
+
+  pub refused : (r : Refused) → Err r ≡ judged (may_end p) x t.jobs at → Err r ≡ outcome_of s
+  unfolding if_judged
+  refused r e = ap (if_judged t) e ∙ drawn

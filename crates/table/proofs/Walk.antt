@@ -10,9 +10,9 @@ use lib.Seq.{drop-drop}
 use lib.Dec.{leb, eqb}
 use borrow.Author.Tests.{leb-true, eq-eqb, ne_eqb}
 use Rattle.table.specs.Records.{le2, sized, marked, record_at, size_of, place_after, may_end, Placed, Reading, at_end, ahead, goes_on, read_from, reading_of}
-use Rattle.table.specs.Table.{recorded}
-use Rattle.table.specs.Refusal.{nothing, learn}
-use Rattle.table.specs.Steps.{added, known_by, known_of, scanned, scan_of, ended_at}
+use Rattle.table.specs.Table.{segments_of, jobs_from, table_from, recorded}
+use Rattle.table.specs.Refusal.{nothing}
+use Rattle.table.specs.Steps.{with_job, with_segment, added, known_by, known_of, scanned, scan_of, ended_at}
 use Rattle.table.specs.declared.Table.{Table}
 use Rattle.table.specs.declared.scan.Scan.{Scan}
 use Rattle.table.specs.declared.scan.Known.{Known}
@@ -20,25 +20,21 @@ use Rattle.table.specs.declared.records.Place.{Place}
 use Rattle.table.specs.declared.records.Place.TheVariants.{First, Next, Within}
 use Rattle.table.specs.declared.records.Record.{Record}
 use Rattle.table.specs.declared.records.Record.TheVariants.{Frame, Job, Segment}
-use Rattle.table.specs.declared.records.Answer.{Answer}
-use Rattle.table.specs.declared.records.Answer.TheVariants.{Whole, Refused}
-use Rattle.table.proofs.Fold.{known_snoc, known_by_lem, table_snoc, scan_snoc}
+use Rattle.std.specs.Prelude.{Option, Some, None}
+use Rattle.table.proofs.Fold.{known_by_lem, table_snoc, scan_snoc}
 
 -- a record that is read is the one that its mark selects, and all its bytes are there
-pub marked_whole : (s : List ℕ) (m n : ℕ) (r' r : Record) → marked s m n r' ≡ Whole r → (r' ≡ r) × (n ≤ length s)
+pub marked_whole : (s : List ℕ) (m n : ℕ) (r' r : Record) → marked s m n r' ≡ Some r → (r' ≡ r) × (n ≤ length s)
 unfolding marked sized
 marked_whole s m n r' r e = go (leb 2 (length s)) (eqb (le2 s 0) m) (leb n (length s)) refl e
   where
-    never : {A : Type 0} → Refused 1 ≡ Whole r → A
-    never q = absurd (let z : ◌≡◌ {A = ℕ} 0 1 = cc in omega arith)
-
-    go : (a b d : Bool) → leb n (length s) ≡ d → cond a (cond b (cond d (Whole r') (Refused 1)) (Refused 1)) (Refused 1) ≡ Whole r → (r' ≡ r) × (n ≤ length s)
+    go : (a b d : Bool) → leb n (length s) ≡ d → cond a (cond b (cond d (Some r') None) None) None ≡ Some r → (r' ≡ r) × (n ≤ length s)
     go true true true h q = (cc, leb-true n (length s) h)
-    go true true false h q = never q
-    go true false d h q = never q
-    go false b d h q = never q
+    go true true false h q = cc
+    go true false d h q = cc
+    go false b d h q = cc
 
-pub record_fits : (p : Place) (s : List ℕ) (r : Record) → record_at p s ≡ Whole r → size_of r ≤ length s
+pub record_fits : (p : Place) (s : List ℕ) (r : Record) → record_at p s ≡ Some r → size_of r ≤ length s
 unfolding record_at
 record_fits First s r e = let h = marked_whole s _ _ _ r e in rw (← h.0) h.1
 record_fits Next s r e = let h = marked_whole s _ _ _ r e in rw (← h.0) h.1
@@ -49,28 +45,24 @@ size_pos (Frame f) = omega arith
 size_pos (Job r b n) = omega arith
 size_pos (Segment l h m) = omega arith
 
-pub size_le : (r : Record) → size_of r ≤ 12
-size_le (Frame f) = omega arith
-size_le (Job r b n) = omega arith
-size_le (Segment l h m) = omega arith
-
--- a record counts for no more jobs or segments than it has bytes
-learn_less : (k : Known) (r : Record) → ((learn k r).jobs ≤ k.jobs + size_of r) × ((learn k r).segments ≤ k.segments + size_of r)
-learn_less k (Frame f) = (omega arith, omega arith)
-learn_less k (Job r b n) = (omega arith, omega arith)
-learn_less k (Segment l h m) = (omega arith, omega arith)
+-- a record adds no more jobs or segments than it has bytes
+adds_few : (t : Table) (at : ℕ) (r : Record) → ((added t at r).jobs ≤ t.jobs + size_of r) × ((added t at r).segments ≤ t.segments + size_of r)
+unfolding added with_job with_segment
+adds_few t at (Frame f) = (omega arith, omega arith)
+adds_few t at (Job r b n) = (omega arith, omega arith)
+adds_few t at (Segment l h m) = (omega arith, omega arith)
 
 -- one step of the reading, and its two ends
-read_step : (n : ℕ) (p : Place) (at : ℕ) (s : List ℕ) (r : Record) → 0 < length s → record_at p s ≡ Whole r
+read_step : (n : ℕ) (p : Place) (at : ℕ) (s : List ℕ) (r : Record) → 0 < length s → record_at p s ≡ Some r
     → read_from (suc n) p at s ≡ ahead (record { at = at; what = r }) (read_from n (place_after p r) (at + size_of r) (drop (size_of r) s))
 unfolding read_from goes_on
 read_step n p at s r h e = rw (ne_eqb (length s) 0 (λ q. omega arith), e)
 
-read_cut : (n : ℕ) (p : Place) (at : ℕ) (s : List ℕ) (k : ℕ) → 0 < length s → length s ≤ n → record_at p s ≡ Refused k
+read_cut : (n : ℕ) (p : Place) (at : ℕ) (s : List ℕ) → 0 < length s → length s ≤ n → record_at p s ≡ None
     → read_from n p at s ≡ record { records = []; whole = false; stop = at }
 unfolding read_from goes_on
-read_cut zero p at s k h l e = absurd (omega arith)
-read_cut (suc n) p at s k h l e = rw (ne_eqb (length s) 0 (λ q. omega arith), e)
+read_cut zero p at s h l e = absurd (omega arith)
+read_cut (suc n) p at s h l e = rw (ne_eqb (length s) 0 (λ q. omega arith), e)
 
 read_end : (n : ℕ) (p : Place) (at : ℕ) (s : List ℕ) → length s ≡ 0 → read_from n p at s ≡ at_end p at
 unfolding read_from
@@ -91,21 +83,21 @@ pub record Went (s : List ℕ) (t : Table) (x : Scan) (p : Place) (at : ℕ) : T
   pub left : ℕ
   pub inside : at ≤ length s
   pub enough : length s - at ≤ left
-  pub few_jobs : (known_of nothing done).jobs ≤ at
-  pub few_segments : (known_of nothing done).segments ≤ at
+  pub few_jobs : t.jobs ≤ at
+  pub few_segments : t.segments ≤ at
   pub table : t ≡ recorded done
   pub scan : x ≡ scan_of done
   pub reading : reading_of s ≡ behind done (read_from left p at (drop at s))
 
 pub start : (s : List ℕ) (t : Table) (x : Scan) → t ≡ recorded [] → x ≡ scan_of [] → Went s t x First 0
-unfolding reading_of behind known_of
+unfolding reading_of behind recorded table_from jobs_from segments_of
 start s t x e f = record {
   done = [];
   left = length s;
   inside = omega arith;
   enough = omega arith;
-  few_jobs = omega arith;
-  few_segments = omega arith;
+  few_jobs = rw (ap (λ (t : Table). t.jobs) e) (omega arith);
+  few_segments = rw (ap (λ (t : Table). t.segments) e) (omega arith);
   table = e;
   scan = f;
   reading = refl;
@@ -115,7 +107,7 @@ start s t x e f = record {
 known_here : {s : List ℕ} {t : Table} {x : Scan} {p : Place} {at : ℕ} (w : Went s t x p at) → known_by t x.release ≡ known_of nothing w.done
 known_here w = rw (w.table, w.scan) (known_by_lem w.done)
 
-pub step : {s : List ℕ} {t : Table} {x : Scan} {p : Place} {at : ℕ} (r : Record) → Went s t x p at → at < length s → record_at p (drop at s) ≡ Whole r
+pub step : {s : List ℕ} {t : Table} {x : Scan} {p : Place} {at : ℕ} (r : Record) → Went s t x p at → at < length s → record_at p (drop at s) ≡ Some r
     → Went s (added t at r) (scanned x (known_by t x.release) at r) (place_after p r) (at + size_of r)
 step {s} {t} {x} {p} {at} r w h e = go w.left w.enough w.reading
   where
@@ -128,9 +120,6 @@ step {s} {t} {x} {p} {at} r w h e = go w.left w.enough w.reading
     fits : size_of r ≤ length s - at
     fits = rw (← room) (record_fits p (drop at s) r e)
 
-    told : known_of nothing (w.done ++ new ∷ []) ≡ learn (known_of nothing w.done) r
-    told = known_snoc nothing w.done new
-
     go : (n : ℕ) → length s - at ≤ n → reading_of s ≡ behind w.done (read_from n p at (drop at s))
         → Went s (added t at r) (scanned x (known_by t x.release) at r) (place_after p r) (at + size_of r)
     go zero l q = absurd (omega arith)
@@ -139,8 +128,8 @@ step {s} {t} {x} {p} {at} r w h e = go w.left w.enough w.reading
       left = n;
       inside = omega (arith, fits);
       enough = omega (arith, size_pos r);
-      few_jobs = omega (arith, ap (λ (k : Known). k.jobs) told, (learn_less (known_of nothing w.done) r).0, w.few_jobs);
-      few_segments = omega (arith, ap (λ (k : Known). k.segments) told, (learn_less (known_of nothing w.done) r).1, w.few_segments);
+      few_jobs = omega (arith, (adds_few t at r).0, w.few_jobs);
+      few_segments = omega (arith, (adds_few t at r).1, w.few_segments);
       table = rw w.table (table_snoc w.done at r);
       scan = ap (λ (k : Known). scanned x k at r) (known_here w) ∙ rw w.scan (scan_snoc w.done at r);
       reading =
@@ -156,19 +145,14 @@ finish {s} {t} {x} {p} {at} w h =
     ∙ (λ i. record { records = append-nil w.done i; whole = may_end p; stop = at })
 
 -- a record that cannot be read
-pub stop : {s : List ℕ} {t : Table} {x : Scan} {p : Place} {at : ℕ} (k : ℕ) (w : Went s t x p at) → at < length s → record_at p (drop at s) ≡ Refused k
+pub stop : {s : List ℕ} {t : Table} {x : Scan} {p : Place} {at : ℕ} (w : Went s t x p at) → at < length s → record_at p (drop at s) ≡ None
     → ((reading_of s).whole ≡ false) × ((reading_of s).stop ≡ at)
 unfolding behind
-stop {s} {t} {x} {p} {at} k w h e =
+stop {s} {t} {x} {p} {at} w h e =
     let q : reading_of s ≡ behind w.done (record { records = []; whole = false; stop = at })
-    = w.reading ∙ ap (behind w.done) (read_cut w.left p at (drop at s) k (rw (length-drop at s) (omega arith)) (rw (length-drop at s) w.enough) e) in
+    = w.reading ∙ ap (behind w.done) (read_cut w.left p at (drop at s) (rw (length-drop at s) (omega arith)) (rw (length-drop at s) w.enough) e) in
     (ap (λ (y : Reading). y.whole) q, ap (λ (y : Reading). y.stop) q)
 
--- the counts stay small
-pub small : {s : List ℕ} {t : Table} {x : Scan} {p : Place} {at : ℕ} (w : Went s t x p at) → at < length s → length s ≤ 4096 → (t.jobs < 4096) × (t.segments < 4096)
-small {s} {t} {x} {p} {at} w h l =
-    (omega (arith, ap (λ (k : Known). k.jobs) (known_here w), w.few_jobs), omega (arith, ap (λ (k : Known). k.segments) (known_here w), w.few_segments))
-
 -- what the record's reader answered of the part that it was handed
-pub told : (s : List ℕ) (at : ℕ) (p : Place) (a b : Answer) → a ≡ record_at p (take (length s - at) (drop at s)) → a ≡ b → record_at p (drop at s) ≡ b
-told s at p a b e f = ap (record_at p) (sym (part_to_end s at)) ∙ sym e ∙ f
+pub told : (s : List ℕ) (at : ℕ) (p : Place) (a : Option Record) → a ≡ record_at p (take (length s - at) (drop at s)) → record_at p (drop at s) ≡ a
+told s at p a e = ap (record_at p) (sym (part_to_end s at)) ∙ sym e

@@ -1,7 +1,7 @@
 -- Induction over a reading that is whole, and what an accepted table is known for.
 use Prim.Native.Nat.{ℕ, zero, suc, ◌+◌, ◌<◌}
 use native.Mathlib.Omega.{arith}
-use mathlib.Core.Path.{◌≡◌, refl, sym, ◌∙◌, ap}
+use mathlib.Core.Path.{◌≡◌, refl, sym, ap}
 use mathlib.Core.List.{List, [], ◌∷◌, ◌++◌}
 use mathlib.Core.Bool.{Bool, true, false, cond}
 use lib.ListN.{length, get_or, drop}
@@ -9,14 +9,16 @@ use lib.Dec.{ltb, eqb}
 use borrow.Author.Tests.{eqb-true, eqb-false, eq-eqb}
 use Rattle.table.specs.Records.{Placed, record_at, size_of, due, lacking, place_after, may_end, Reading, at_end, ahead, goes_on, read_from, reading_of}
 use Rattle.table.specs.Table.{jobs_of, padded, recorded}
-use Rattle.table.specs.Refusal.{nothing, outside, earlier, beyond, when, failing, Refusal, or_else, refusal_in, refusal, answer, outcome_of}
-use Rattle.table.specs.declared.Outcome.{Outcome}
+use Rattle.table.specs.Refusal.{nothing, outside, earlier, beyond, when, failing, Refusal, or_else, refusal_in, refusal, fault_number, fault_of, answer, outcome_of}
+use Rattle.table.specs.declared.Fault.{Fault}
+use Rattle.table.specs.declared.Fault.TheVariants.{Unreadable, OutOfBounds, OutOfOrder, Crowded}
+use Rattle.table.specs.declared.Refused.{Refused}
+use Rattle.table.specs.declared.Table.{Table}
 use Rattle.table.specs.declared.records.Place.{Place}
 use Rattle.table.specs.declared.records.Place.TheVariants.{First, Next, Within}
 use Rattle.table.specs.declared.records.Record.{Record}
 use Rattle.table.specs.declared.records.Record.TheVariants.{Frame, Job}
-use Rattle.table.specs.declared.records.Answer.{Answer}
-use Rattle.table.specs.declared.records.Answer.TheVariants.{Whole, Refused}
+use Rattle.std.specs.Prelude.{Option, Some, None, Ok, Err, ◌≢◌}
 use Rattle.table.proofs.Walk.{marked_whole}
 
 -- ---- what is due
@@ -31,29 +33,29 @@ lacking_due n = go (eqb n 0) refl
 pub ended_lacks : (p : Place) → may_end p ≡ true → lacking p ≡ 0
 ended_lacks First e = refl
 ended_lacks Next e = refl
-ended_lacks (Within n) e = absurd (let z : ◌≡◌ {A = ℕ} 0 1 = cc in omega arith)
+ended_lacks (Within n) e = cc
 
 -- where a segment is due, no other record is read
-pub not_frame : (n : ℕ) (s : List ℕ) (f : ℕ) → record_at (Within n) s ≡ Whole (Frame f) → ⊥
+pub not_frame : (n : ℕ) (s : List ℕ) (f : ℕ) → record_at (Within n) s ≡ Some (Frame f) → ⊥
 unfolding record_at
-not_frame n s f e = let q = (marked_whole s _ _ _ _ e).0 in let z : ◌≡◌ {A = ℕ} 0 1 = cc in omega arith
+not_frame n s f e = let q = (marked_whole s _ _ _ _ e).0 in cc
 
-pub not_job : (n : ℕ) (s : List ℕ) (a b m : ℕ) → record_at (Within n) s ≡ Whole (Job a b m) → ⊥
+pub not_job : (n : ℕ) (s : List ℕ) (a b m : ℕ) → record_at (Within n) s ≡ Some (Job a b m) → ⊥
 unfolding record_at
-not_job n s a b m e = let q = (marked_whole s _ _ _ _ e).0 in let z : ◌≡◌ {A = ℕ} 0 1 = cc in omega arith
+not_job n s a b m e = let q = (marked_whole s _ _ _ _ e).0 in cc
 
 -- ---- induction: the records stand from a place on
 
 module _ (P : Place → ℕ → List ℕ → List Placed → Type 0) (base : (p : Place) (at : ℕ) (s : List ℕ) → may_end p ≡ true → P p at s [])
-    (step : (p : Place) (at : ℕ) (s : List ℕ) (r : Record) (rs : List Placed) → record_at p s ≡ Whole r
+    (step : (p : Place) (at : ℕ) (s : List ℕ) (r : Record) (rs : List Placed) → record_at p s ≡ Some r
     → P (place_after p r) (at + size_of r) (drop (size_of r) s) rs → P p at s (record { at = at; what = r } ∷ rs)) where
   one : (rest : Place → ℕ → List ℕ → Reading) → ((p : Place) (at : ℕ) (s : List ℕ) → (rest p at s).whole ≡ true → P p at s (rest p at s).records)
-      → (p : Place) (at : ℕ) (s : List ℕ) (b : Bool) (a : Answer) → record_at p s ≡ a
+      → (p : Place) (at : ℕ) (s : List ℕ) (b : Bool) (a : Option Record) → record_at p s ≡ a
       → (cond b (at_end p at) (goes_on rest p at s a)).whole ≡ true → P p at s (cond b (at_end p at) (goes_on rest p at s a)).records
   unfolding goes_on ahead
   one rest ih p at s true a q w = base p at s w
-  one rest ih p at s false (Whole r) q w = step p at s r _ q (ih (place_after p r) (at + size_of r) (drop (size_of r) s) w)
-  one rest ih p at s false (Refused k) q w = absurd (let z : ◌≡◌ {A = ℕ} 0 1 = cc in omega arith)
+  one rest ih p at s false (Some r) q w = step p at s r _ q (ih (place_after p r) (at + size_of r) (drop (size_of r) s) w)
+  one rest ih p at s false None q w = cc
 
   pub each : (n : ℕ) (p : Place) (at : ℕ) (s : List ℕ) → (read_from n p at s).whole ≡ true → P p at s (read_from n p at s).records
   unfolding read_from
@@ -69,15 +71,15 @@ first_none n (x ∷ xs) later h e = absurd (omega arith)
 
 both_none : (xs ys : List ℕ) → xs ++ ys ≡ [] → (xs ≡ []) × (ys ≡ [])
 both_none [] ys e = (refl, e)
-both_none (x ∷ xs) ys e = absurd (let z : ◌≡◌ {A = ℕ} 0 1 = cc in omega arith)
+both_none (x ∷ xs) ys e = cc
 
 when_none : (b : Bool) (at : ℕ) → when b at ≡ [] → b ≡ false
-when_none true at e = absurd (let z : ◌≡◌ {A = ℕ} 0 1 = cc in omega arith)
+when_none true at e = cc
 when_none false at e = refl
 
 whole_none : (b : Bool) (at : ℕ) → cond b [] (at ∷ []) ≡ [] → b ≡ true
 whole_none true at e = refl
-whole_none false at e = absurd (let z : ◌≡◌ {A = ℕ} 0 1 = cc in omega arith)
+whole_none false at e = cc
 
 short : (b : Bool) (x y : Refusal) → 0 < x.number → (cond b x y).number ≡ 0 → y.number ≡ 0
 short true x y h e = absurd (omega arith)
@@ -112,21 +114,70 @@ pub passes : (test : Bool) (at : ℕ) (later : List ℕ) → when test at ++ lat
 passes test at later e = let (a, b) = both_none (when test at) later e in (when_none test at a, b)
 
 -- a row of the table at a place that it has
-pub get_d_padded : (n : ℕ) (xs : List ℕ) (j : ℕ) → j < n → get_or (padded n xs) j 0 ≡ get_or xs j 0
+pub get_or_padded : {E : Type 0} (n : ℕ) (filler : E) (xs : List E) (j : ℕ) → j < n → get_or (padded n filler xs) j filler ≡ get_or xs j filler
 unfolding padded
-get_d_padded zero xs j h = absurd (omega arith)
-get_d_padded (suc n) [] zero h = refl
-get_d_padded (suc n) [] (suc j) h = get_d_padded n [] j (omega arith)
-get_d_padded (suc n) (x ∷ xs) zero h = refl
-get_d_padded (suc n) (x ∷ xs) (suc j) h = get_d_padded n xs j (omega arith)
+get_or_padded zero filler xs j h = absurd (omega arith)
+get_or_padded (suc n) filler [] zero h = refl
+get_or_padded (suc n) filler [] (suc j) h = get_or_padded n filler [] j (omega arith)
+get_or_padded (suc n) filler (x ∷ xs) zero h = refl
+get_or_padded (suc n) filler (x ∷ xs) (suc j) h = get_or_padded n filler xs j (omega arith)
 
 -- ---- the answer's parts
 
-module _ (s : List ℕ) (o : Outcome) (e : o ≡ outcome_of s) where
-  pub refusal_is : o.refusal ≡ (refusal s).number
-  unfolding outcome_of answer
-  refusal_is = ap (λ (x : Outcome). x.refusal) e
+-- no fault has number 0
+pub number_some : (f : Fault) → fault_number f ≢ 0
+number_some Unreadable e = omega arith
+number_some OutOfBounds e = omega arith
+number_some OutOfOrder e = omega arith
+number_some Crowded e = omega arith
 
-  pub table_is : o.refusal ≡ 0 → o.table ≡ recorded (reading_of s).records
+abbrev refused : Refusal → Refused
+refused n = record { fault = fault_of n.number; place = n.place }
+
+module _ (n : Refusal) (t : Table) where
+  answer_ok : (u : Table) → Ok u ≡ answer n t → (n.number ≡ 0) × (u ≡ t)
+  unfolding answer
+  answer_ok u = go (eqb n.number 0) refl
+    where
+      go : (b : Bool) → eqb n.number 0 ≡ b → Ok u ≡ cond b (Ok t) (Err (refused n)) → (n.number ≡ 0) × (u ≡ t)
+      go true q e = (eqb-true n.number 0 q, cc)
+      go false q e = cc
+
+  answer_err : (r : Refused) → Err r ≡ answer n t → (n.number ≢ 0) × (r ≡ refused n)
+  unfolding answer
+  answer_err r = go (eqb n.number 0) refl
+    where
+      go : (b : Bool) → eqb n.number 0 ≡ b → Err r ≡ cond b (Ok t) (Err (refused n))
+          → (n.number ≢ 0) × (r ≡ refused n)
+      go true q e = cc
+      go false q e = (eqb-false n.number 0 q, cc)
+
+-- a refusal has the number of a fault, or 0
+abbrev Named : Refusal → Type 0
+Named n = n.number ≢ 0 → fault_number (fault_of n.number) ≡ n.number
+
+named_else : (n : ℕ) (ats : List ℕ) (later : Refusal) → fault_number (fault_of n) ≡ n → Named later → Named (or_else n ats later)
+named_else n [] later e h = h
+named_else n (x ∷ xs) later e h = λ d. e
+
+named : (s : List ℕ) → Named (refusal s)
+unfolding refusal refusal_in
+named s = go (ltb 4096 (length s))
+  where
+    go : (b : Bool) → Named (cond b (record { number = 1; place = 4096 }) (refusal_in (length s) (reading_of s)))
+    go true = λ d. refl
+    go false = named_else 1 _ _ refl (named_else 2 _ _ refl (named_else 3 _ _ refl (named_else 4 _ _ refl (λ d. absurd (d refl)))))
+
+-- for a caller of `Table::read`: what its answer says of the refusal
+module _ (s : List ℕ) where
+  pub ok_is : (t : Table) → Ok t ≡ outcome_of s → ((refusal s).number ≡ 0) × (t ≡ recorded (reading_of s).records)
+  unfolding outcome_of
+  ok_is t e = answer_ok (refusal s) (recorded (reading_of s).records) t e
+
+  pub err_is : (r : Refused) → Err r ≡ outcome_of s → ((refusal s).number ≢ 0) × (fault_number r.fault ≡ (refusal s).number) × (r.place ≡ (refusal s).place)
+  unfolding outcome_of
+  err_is r e = let (d, q) = answer_err (refusal s) (recorded (reading_of s).records) r e in (d, rw q (named s d), ap (λ (x : Refused). x.place) q)
+
+  pub accepted_is : (refusal s).number ≡ 0 → outcome_of s ≡ Ok (recorded (reading_of s).records)
   unfolding outcome_of answer
-  table_is z = ap (λ (x : Outcome). x.table) e ∙ rw (eq-eqb (refusal s).number 0 (sym refusal_is ∙ z))
+  accepted_is z = rw (eq-eqb (refusal s).number 0 z)

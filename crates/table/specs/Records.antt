@@ -1,11 +1,9 @@
 -- The records of a table (paper 01, 'Table bytes'): which record stands where one is due, and the reading of a whole table.
-use Rattle.std.specs.Prelude.{ℕ, zero, suc, ◌+◌, ◌*◌, ◌-◌, List, [], ◌∷◌, Bool, true, false, cond, length, get_or, drop, leb, eqb}
+use Rattle.std.specs.Prelude.{ℕ, zero, suc, ◌+◌, ◌*◌, ◌-◌, List, [], ◌∷◌, Option, Some, None, Bool, true, false, cond, length, get_or, drop, leb, eqb}
 use Rattle.table.specs.declared.records.Place.{Place}
 use Rattle.table.specs.declared.records.Place.TheVariants.{First, Next, Within}
 use Rattle.table.specs.declared.records.Record.{Record}
 use Rattle.table.specs.declared.records.Record.TheVariants.{Frame, Job, Segment}
-use Rattle.table.specs.declared.records.Answer.{Answer}
-use Rattle.table.specs.declared.records.Answer.TheVariants.{Whole, Refused}
 
 -- two and four bytes from place i, little-endian
 abbrev pub le2 : List ℕ → ℕ → ℕ
@@ -24,16 +22,16 @@ job_at s = Job (le4 s 2) (get_or s 6 0) (get_or s 7 0)
 abbrev pub segment_at : List ℕ → Record
 segment_at s = Segment (le4 s 2) (le4 s 6) (le2 s 10)
 
--- the record, where s has all its bytes; else refusal 1
-unfoldable pub sized : List ℕ → ℕ → Record → Answer
-sized s size r = cond (leb size (length s)) (Whole r) (Refused 1)
+-- the record, where s has all its bytes
+unfoldable pub sized : List ℕ → ℕ → Record → Option Record
+sized s size r = cond (leb size (length s)) (Some r) None
 
--- the record, where s starts with its mark and has all its bytes; else refusal 1
-unfoldable pub marked : List ℕ → ℕ → ℕ → Record → Answer
-marked s mark size r = cond (leb 2 (length s)) (cond (eqb (le2 s 0) mark) (sized s size r) (Refused 1)) (Refused 1)
+-- the record, where s starts with its mark and has all its bytes
+unfoldable pub marked : List ℕ → ℕ → ℕ → Record → Option Record
+marked s mark size r = cond (leb 2 (length s)) (cond (eqb (le2 s 0) mark) (sized s size r) None) None
 
 -- the record that stands at the start of s, by the place: FR (46 52) where the table starts, JB (4A 42) where a job may start, SG (53 47) where a job still lacks segments
-unfoldable pub record_at : Place → List ℕ → Answer
+unfoldable pub record_at : Place → List ℕ → Option Record
 record_at First s = marked s 0x5246 6 (frame_at s)
 record_at Next s = marked s 0x424a 8 (job_at s)
 record_at (Within n) s = marked s 0x4753 12 (segment_at s)
@@ -83,9 +81,9 @@ unfoldable pub ahead : Placed → Reading → Reading
 ahead r x = record { records = r ∷ x.records; whole = x.whole; stop = x.stop }
 
 -- a record that cannot be read ends the reading there
-unfoldable pub goes_on : (Place → ℕ → List ℕ → Reading) → Place → ℕ → List ℕ → Answer → Reading
-goes_on rest p at s (Whole r) = ahead (record { at = at; what = r }) (rest (place_after p r) (at + size_of r) (drop (size_of r) s))
-goes_on rest p at s (Refused n) = record { records = []; whole = false; stop = at }
+unfoldable pub goes_on : (Place → ℕ → List ℕ → Reading) → Place → ℕ → List ℕ → Option Record → Reading
+goes_on rest p at s (Some r) = ahead (record { at = at; what = r }) (rest (place_after p r) (at + size_of r) (drop (size_of r) s))
+goes_on rest p at s None = record { records = []; whole = false; stop = at }
 
 -- the reading from `at` on, where s are the bytes from there on; n is any number that is not below their length
 unfoldable pub read_from : ℕ → Place → ℕ → List ℕ → Reading

@@ -1,9 +1,11 @@
 -- Refusals 1 to 4 (paper 01, 'Numbers returned when a call declines'): of each, the places where it arises; and what reading a table answers.
-use Rattle.std.specs.Prelude.{ℕ, ◌+◌, List, [], ◌∷◌, ◌++◌, Bool, true, false, cond, ◌||◌, length, ltb, leb, eqb}
+use Rattle.std.specs.Prelude.{ℕ, ◌+◌, List, [], ◌∷◌, ◌++◌, Result, Ok, Err, Bool, true, false, cond, ◌||◌, length, ltb, leb, eqb}
 use Rattle.table.specs.Limits.{most_bytes, most_jobs, most_segments, most_ticks, most_base, most_count}
 use Rattle.table.specs.Records.{Placed, Reading, reading_of}
 use Rattle.table.specs.Table.{jobs_of, recorded}
-use Rattle.table.specs.declared.Outcome.{Outcome}
+use Rattle.table.specs.declared.Fault.{Fault}
+use Rattle.table.specs.declared.Fault.TheVariants.{Unreadable, OutOfBounds, OutOfOrder, Crowded}
+use Rattle.table.specs.declared.Refused.{Refused}
 use Rattle.table.specs.declared.Table.{Table}
 use Rattle.table.specs.declared.scan.Known.{Known}
 use Rattle.table.specs.declared.records.Record.{Record}
@@ -87,13 +89,28 @@ refusal_in end x =
 unfoldable pub refusal : List ℕ → Refusal
 refusal s = cond (ltb most_bytes (length s)) (record { number = 1; place = most_bytes }) (refusal_in (length s) (reading_of s))
 
--- what reading answers, where the records say the table t: with a refusal the table of no record
-unfoldable pub answer : Refusal → Table → Outcome
-answer n t = record { refusal = n.number; place = n.place; table = cond (eqb n.number 0) t (recorded []) }
+-- the number of a fault, and the fault of a number from 1 to 4
+abbrev pub fault_number : Fault → ℕ
+fault_number Unreadable = 1
+fault_number OutOfBounds = 2
+fault_number OutOfOrder = 3
+fault_number Crowded = 4
 
-unfoldable pub outcome_of : List ℕ → Outcome
+abbrev pub fault_of : ℕ → Fault
+fault_of n = cond (eqb n 1) Unreadable (cond (eqb n 2) OutOfBounds (cond (eqb n 3) OutOfOrder Crowded))
+
+-- what reading answers, where the records say the table t: the table where nothing refuses it
+unfoldable pub answer : Refusal → Table → Result Table Refused
+answer n t = cond (eqb n.number 0) (Ok t) (Err (record { fault = fault_of n.number; place = n.place }))
+
+unfoldable pub outcome_of : List ℕ → Result Table Refused
 outcome_of s = answer (refusal s) (recorded (reading_of s).records)
+
+-- the table of an answer: of no record where it is refused
+abbrev pub table_in : Result Table Refused → Table
+table_in (Ok t) = t
+table_in (Err e) = recorded []
 
 -- the table that the bytes say
 abbrev pub table_of : List ℕ → Table
-table_of s = (outcome_of s).table
+table_of s = table_in (outcome_of s)

@@ -1,72 +1,48 @@
 -- What the private functions promise: one record more in a table and in a scan, as the code adds it. No promise of a public function cites this.
-use Rattle.std.specs.Prelude.{ℕ, ◌+◌, List, [], ◌∷◌, Bool, cond, set, ltb}
+use Rattle.std.specs.Prelude.{ℕ, ◌+◌, List, [], ◌∷◌, Option, Some, None, Result, Ok, Err, Bool, cond, not, set, ltb, eqb}
+use Rattle.std.specs.Option.{option_or}
+use Rattle.std.specs.Bool.{then_some}
 use Rattle.table.specs.Limits.{most_jobs, most_segments}
 use Rattle.table.specs.Records.{Placed, Reading, may_end}
-use Rattle.table.specs.Table.{recorded}
-use Rattle.table.specs.Refusal.{nothing, learn, outside, earlier, beyond, failing, refusal_in, answer}
-use Rattle.table.specs.declared.Outcome.{Outcome}
+use Rattle.table.specs.Refusal.{nothing, learn, outside, earlier, beyond, failing}
+use Rattle.table.specs.declared.Job.{Job}
+use Rattle.table.specs.declared.Segment.{Segment}
 use Rattle.table.specs.declared.Table.{Table}
+use Rattle.table.specs.declared.Fault.{Fault}
+use Rattle.table.specs.declared.Fault.TheVariants.{Unreadable, OutOfBounds, OutOfOrder, Crowded}
+use Rattle.table.specs.declared.Refused.{Refused}
 use Rattle.table.specs.declared.scan.Known.{Known}
 use Rattle.table.specs.declared.scan.Scan.{Scan}
-use Rattle.table.specs.declared.scan.Spot.{Spot}
-use Rattle.table.specs.declared.scan.Spot.TheVariants.{Nowhere, At}
 use Rattle.table.specs.declared.records.Place.{Place}
 use Rattle.table.specs.declared.records.Record.{Record}
-use Rattle.table.specs.declared.records.Record.TheVariants.{Frame, Job, Segment}
+use Rattle.table.specs.declared.records.Record.TheVariants as Say
 
 -- v at place i, where i is below n
-abbrev pub kept : ℕ → List ℕ → ℕ → ℕ → List ℕ
+abbrev pub kept : {E : Type 0} → ℕ → List E → ℕ → E → List E
 kept n xs i v = cond (ltb i n) (set xs i v) xs
 
-unfoldable pub with_frame : Table → ℕ → Table
-with_frame t f = record {
-  frame = f;
-  jobs = t.jobs;
-  segments = t.segments;
-  mark = t.mark;
-  release = t.release;
-  base = t.base;
-  first = t.first;
-  count = t.count;
-  shortest = t.shortest;
-  longest = t.longest;
-  held = t.held;
-}
-
-unfoldable pub with_job : Table → ℕ → ℕ → ℕ → ℕ → Table
-with_job t at r b n = record {
+unfoldable pub with_job : Table → Job → Table
+with_job t v = record {
   frame = t.frame;
   jobs = t.jobs + 1;
   segments = t.segments;
-  mark = kept most_jobs t.mark t.jobs at;
-  release = kept most_jobs t.release t.jobs r;
-  base = kept most_jobs t.base t.jobs b;
-  first = kept most_jobs t.first t.jobs t.segments;
-  count = kept most_jobs t.count t.jobs n;
-  shortest = t.shortest;
-  longest = t.longest;
-  held = t.held;
+  job = kept most_jobs t.job t.jobs v;
+  segment = t.segment;
 }
 
-unfoldable pub with_segment : Table → ℕ → ℕ → ℕ → Table
-with_segment t l h m = record {
+unfoldable pub with_segment : Table → Segment → Table
+with_segment t v = record {
   frame = t.frame;
   jobs = t.jobs;
   segments = t.segments + 1;
-  mark = t.mark;
-  release = t.release;
-  base = t.base;
-  first = t.first;
-  count = t.count;
-  shortest = kept most_segments t.shortest t.segments l;
-  longest = kept most_segments t.longest t.segments h;
-  held = kept most_segments t.held t.segments m;
+  job = t.job;
+  segment = kept most_segments t.segment t.segments v;
 }
 
 unfoldable pub added : Table → ℕ → Record → Table
-added t at (Frame f) = with_frame t f
-added t at (Job r b n) = with_job t at r b n
-added t at (Segment l h m) = with_segment t l h m
+added t at (Say.Frame f) = record { frame = f; jobs = t.jobs; segments = t.segments; job = t.job; segment = t.segment }
+added t at (Say.Job r b n) = with_job t (record { mark = at; release = r; base = b; first = t.segments; count = n })
+added t at (Say.Segment l h m) = with_segment t (record { shortest = l; longest = h; held = m })
 
 -- what the records so far say, by the table and the release of the last job
 abbrev pub known_by : Table → ℕ → Known
@@ -77,35 +53,38 @@ known_of k [] = k
 known_of k (r ∷ rs) = known_of (learn k r.what) rs
 
 -- the first of these places
-abbrev pub spot_of : List ℕ → Spot
-spot_of [] = Nowhere
-spot_of (at ∷ ats) = At at
-
-abbrev pub first_spot : Spot → Bool → ℕ → Spot
-first_spot (At first) cause at = At first
-first_spot Nowhere cause at = cond cause (At at) Nowhere
+abbrev pub first_of : List ℕ → Option ℕ
+first_of [] = None
+first_of (at ∷ ats) = Some at
 
 -- what is kept of the records for refusals 2 to 4
 unfoldable pub scan_of : List Placed → Scan
 scan_of rs = record {
   release = (known_of nothing rs).release;
-  faulty = spot_of (failing outside nothing rs);
-  early = spot_of (failing earlier nothing rs);
-  beyond = spot_of (failing beyond nothing rs);
+  faulty = first_of (failing outside nothing rs);
+  early = first_of (failing earlier nothing rs);
+  beyond = first_of (failing beyond nothing rs);
 }
 
 unfoldable pub scanned : Scan → Known → ℕ → Record → Scan
 scanned x k at r = record {
   release = (learn k r).release;
-  faulty = first_spot x.faulty (outside k r) at;
-  early = first_spot x.early (earlier k r) at;
-  beyond = first_spot x.beyond (beyond k r) at;
+  faulty = option_or x.faulty (then_some (outside k r) at);
+  early = option_or x.early (then_some (earlier k r) at);
+  beyond = option_or x.beyond (then_some (beyond k r) at);
 }
 
 -- a reading that came to the end of the bytes at a place
 unfoldable pub ended_at : List Placed → Place → ℕ → Reading
 ended_at rs p end = record { records = rs; whole = may_end p; stop = end }
 
--- the answer to a reading of so many bytes, at most 4,096
-unfoldable pub answer_to : ℕ → Reading → Outcome
-answer_to end x = answer (refusal_in end x) (recorded x.records)
+-- a fault at a place, where there is one; else what comes after it
+abbrev pub fault_at : Fault → Option ℕ → Result (Unit {0}) Refused → Result (Unit {0}) Refused
+fault_at f (Some at) later = Err (record { fault = f; place = at })
+fault_at f None later = later
+
+-- what such a reading is refused for, by what was kept of its records
+abbrev pub judged : Bool → Scan → (jobs end : ℕ) → Result (Unit {0}) Refused
+judged whole x jobs end =
+    fault_at Unreadable (then_some (not whole) end)
+    (fault_at OutOfBounds x.faulty (fault_at OutOfOrder x.early (fault_at Crowded (then_some (eqb jobs 0) end) (fault_at Crowded x.beyond (Ok tt)))))

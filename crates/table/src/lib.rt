@@ -1,50 +1,80 @@
 // The job table: its bytes are read record by record, and a table that reads whole and keeps its limits is held by value.
 #![tactic(auto)]
 
-ghost use Rattle.std.specs.Prelude.{◌≡◌, List, [], ◌+◌, ◌*◌, ◌<◌};
+ghost use Rattle.std.specs.Prelude.{◌≡◌, [], ◌+◌, ◌*◌, ◌<◌};
 ghost use Rattle.table.specs.Table.{recorded};
-ghost use Rattle.table.specs.Refusal.{answer, outcome_of};
+ghost use Rattle.table.specs.Refusal.{fault_number, outcome_of};
 ghost use Rattle.table.specs.Part.{Lies, start_of, length_of, part_of};
-ghost use Rattle.table.specs.Steps.{with_frame, with_job, with_segment, added, known_by, scan_of, ended_at, answer_to};
-ghost use Rattle.table.specs.Records.{Placed as Rec};
-ghost use Rattle.table.specs.declared.Table.{Table as Tab};
+ghost use Rattle.table.specs.Steps.{kept, with_job, with_segment, added, known_by, judged};
+ghost use Rattle.table.specs.Records.{may_end};
 
 mod records;
 mod scan;
 
-use records::{Answer, Place, Record};
-use scan::{Known, Scan, Spot};
+use records::{Place, Record};
+use scan::{Known, Scan};
 
+// What a job's record says, the place of its mark, and the number of its first segment.
+#[derive(Clone, Copy, Debug, PartialEq, Eq)]
+pub struct Job {
+    pub mark: usize,
+    pub release: u32,
+    pub base: u8,
+    pub first: usize,
+    pub count: u8,
+}
+
+#[derive(Clone, Copy, Debug, PartialEq, Eq)]
+pub struct Segment {
+    pub shortest: u32,
+    pub longest: u32,
+    pub held: u16,
+}
+
+// Jobs and segments past the last that fits are counted and not stored.
 #[derive(Clone, Copy)]
 pub struct Table {
     pub frame: u32,
     pub jobs: usize,
     pub segments: usize,
-    // Of each job: the place of its mark, its release, its base priority, its first segment and how many it has.
-    pub mark: [usize; Table::JOBS],
-    pub release: [u32; Table::JOBS],
-    pub base: [u8; Table::JOBS],
-    pub first: [usize; Table::JOBS],
-    pub count: [u8; Table::JOBS],
-    // Of each segment, in table order.
-    pub shortest: [u32; Table::SEGMENTS],
-    pub longest: [u32; Table::SEGMENTS],
-    pub held: [u16; Table::SEGMENTS],
+    // In table order.
+    pub job: [Job; Table::JOBS],
+    pub segment: [Segment; Table::SEGMENTS],
 }
 
-// What reading a table answers: 0 and the table; or the refusal, the place in the bytes where it arose, and the table of no record.
-#[derive(Clone, Copy)]
-pub struct Outcome {
-    pub refusal: u32,
+// What a table is refused for: the numbers 1 to 4.
+#[derive(Clone, Copy, Debug, PartialEq, Eq)]
+pub enum Fault {
+    Unreadable = 1,
+    OutOfBounds,
+    OutOfOrder,
+    Crowded,
+}
+
+// A fault, and the place in the bytes where it arose.
+#[derive(Clone, Copy, Debug, PartialEq, Eq)]
+pub struct Refused {
+    pub fault: Fault,
     pub place: usize,
-    pub table: Table,
 }
 
 // Bytes that lie together in a table.
-#[derive(Clone, Copy)]
+#[derive(Clone, Copy, Debug, PartialEq, Eq)]
 pub struct Extent {
     pub start: usize,
     pub length: usize,
+}
+
+// Counts a value, and stores it at the end of the row where there is room.
+fn put<T: Copy, const N: usize>(row: &mut [T; N], count: &mut usize, value: T)
+    requires { count.old < 4096 }
+    ensures stored { row.new ≡ kept N row.old count.old value }
+    ensures counted { count.new ≡ count.old + 1 }
+{
+    if *count < N {
+        row[*count] = value;
+    }
+    *count += 1;
 }
 
 impl Table {
@@ -63,6 +93,7 @@ impl Table {
     pub const COUNT: u8 = 8;
 
     // The table of no record.
+    #[tactic(auto, unfolding(crate::specs::Table::recorded, crate::specs::Table::table_from, crate::specs::Table::jobs_from, crate::specs::Table::segments_of, crate::specs::Table::frame_of, crate::specs::Table::padded))]
     pub fn new() -> Table
         ensures { result ≡ recorded [] }
     {
@@ -70,76 +101,44 @@ impl Table {
             frame: 0,
             jobs: 0,
             segments: 0,
-            mark: [0; Table::JOBS],
-            release: [0; Table::JOBS],
-            base: [0; Table::JOBS],
-            first: [0; Table::JOBS],
-            count: [0; Table::JOBS],
-            shortest: [0; Table::SEGMENTS],
-            longest: [0; Table::SEGMENTS],
-            held: [0; Table::SEGMENTS],
+            job: [Job::NONE; Table::JOBS],
+            segment: [Segment::NONE; Table::SEGMENTS],
         }
-    }
-
-    fn with_frame(mut self, frame: u32) -> Table
-        ensures { result ≡ with_frame self frame }
-    {
-        self.frame = frame;
-        self
-    }
-
-    // Jobs past the last that fits are counted and not stored.
-    #[tactic(auto, unfolding(crate::specs::Steps::with_job))]
-    fn with_job(mut self, at: usize, release: u32, base: u8, count: u8) -> Table
-        requires { self.jobs < 4096 }
-        ensures { result ≡ with_job self at release base count }
-    {
-        let j = self.jobs;
-        self.jobs = j + 1;
-        if j < Table::JOBS {
-            let first = self.segments;
-            self.mark[j] = at;
-            self.release[j] = release;
-            self.base[j] = base;
-            self.first[j] = first;
-            self.count[j] = count;
-            return self;
-        }
-        self
-    }
-
-    // Segments past the last that fits are counted and not stored.
-    #[tactic(auto, unfolding(crate::specs::Steps::with_segment))]
-    fn with_segment(mut self, shortest: u32, longest: u32, held: u16) -> Table
-        requires { self.segments < 4096 }
-        ensures { result ≡ with_segment self shortest longest held }
-    {
-        let k = self.segments;
-        self.segments = k + 1;
-        if k < Table::SEGMENTS {
-            self.shortest[k] = shortest;
-            self.longest[k] = longest;
-            self.held[k] = held;
-            return self;
-        }
-        self
     }
 
     // One record more, whose mark stands at a place.
-    fn with(self, at: usize, rec: Record) -> Table
-        requires { (self.jobs < 4096) × (self.segments < 4096) }
-        ensures { result ≡ added self at rec }
+    #[tactic(auto, unfolding(crate::specs::Steps::added, crate::specs::Steps::with_job, crate::specs::Steps::with_segment))]
+    fn push(&mut self, at: usize, rec: Record)
+        requires few_jobs { self.old.jobs < 4096 }
+        requires few_segments { self.old.segments < 4096 }
+        ensures { self.new ≡ added self.old at rec }
     {
         match rec {
-            Record::Frame(frame) => self.with_frame(frame),
-            Record::Job(release, base, count) => self.with_job(at, release, base, count),
-            Record::Segment(shortest, longest, held) => self.with_segment(shortest, longest, held),
+            Record::Frame(frame) => self.frame = frame,
+            Record::Job(release, base, count) => {
+                let job = Job {
+                    mark: at,
+                    release,
+                    base,
+                    first: self.segments,
+                    count,
+                };
+                put(&mut self.job, &mut self.jobs, job);
+            }
+            Record::Segment(shortest, longest, held) => {
+                let segment = Segment {
+                    shortest,
+                    longest,
+                    held,
+                };
+                put(&mut self.segment, &mut self.segments, segment);
+            }
         }
     }
 
     // What the records so far say, where the last job has this release.
-    fn known(self, release: u32) -> Known
-        ensures { result ≡ known_by self release }
+    fn known(&self, release: u32) -> Known
+        ensures { result ≡ known_by self.now release }
     {
         Known {
             frame: self.frame,
@@ -150,107 +149,118 @@ impl Table {
     }
 
     // Reads a table. The part of the bytes from each record's mark on is handed to the record's reader.
-    pub fn read(bytes: &[u8]) -> Outcome
+    #[tactic(auto, using(crate::proofs::Walk::start, crate::proofs::Walk::step, crate::proofs::Walk::told, crate::proofs::Verdict::too_long, crate::proofs::Verdict::passed, crate::proofs::Verdict::refused))]
+    pub fn read(bytes: &[u8]) -> Result<Table, Refused>
         ensures { result ≡ outcome_of bytes.now }
     {
         if Table::BYTES < bytes.len() {
-            return Outcome::refused(1, Table::BYTES);
+            return Err(Fault::Unreadable.at(Table::BYTES));
         }
         let mut table = Table::new();
         let mut scan = Scan::new();
         let mut place = Place::First;
-        let mut at: usize = 0;
+        let mut at = 0;
+        // Records differ in size, so no iterator steps over them.
         while at < bytes.len() {
-            let Answer::Whole(rec) = Record::read(&bytes[at..], place) else {
-                return Outcome::refused(1, at);
+            let Some(rec) = Record::read(&bytes[at..], place) else {
+                return Err(Fault::Unreadable.at(at));
             };
-            scan = scan.with(table.known(scan.release), at, rec);
-            table = table.with(at, rec);
+            let known = table.known(scan.release);
+            scan.push(known, at, rec);
+            table.push(at, rec);
             place = place.after(rec);
-            at = at + rec.size();
+            at += rec.size();
         }
-        Outcome::judged(table, scan, place, at)
+        table.judge(scan, place, at)?;
+        Ok(table)
     }
 
-    // The bytes of a job's record and of so many segments' records.
-    fn span(count: u8) -> usize
-        ensures { result ≡ 8 + 12 * count }
+    // What the table is refused for, where its bytes ended at a place.
+    fn judge(&self, scan: Scan, place: Place, end: usize) -> Result<(), Refused>
+        ensures { result ≡ judged (may_end place) scan self.now.jobs end }
     {
-        8 + 12 * (count as usize)
+        if !place.may_end() {
+            return Err(Fault::Unreadable.at(end));
+        }
+        if let Some(at) = scan.faulty {
+            return Err(Fault::OutOfBounds.at(at));
+        }
+        if let Some(at) = scan.early {
+            return Err(Fault::OutOfOrder.at(at));
+        }
+        if self.jobs == 0 {
+            return Err(Fault::Crowded.at(end));
+        }
+        if let Some(at) = scan.beyond {
+            return Err(Fault::Crowded.at(at));
+        }
+        Ok(())
     }
 
     // Where the records of one job lie: nowhere, at the end, where the table is refused or has no such job.
+    #[tactic(auto, using(crate::proofs::Parts::refused_there, crate::proofs::Parts::past_there, crate::proofs::Parts::job_there))]
     pub fn extent(bytes: &[u8], job: u32) -> Extent
         ensures { result ≡ record { start = start_of bytes.now job; length = length_of bytes.now job } }
     {
-        let none = Extent {
-            start: bytes.len(),
-            length: 0,
-        };
-        let outcome = Table::read(bytes);
-        if outcome.refusal != 0 {
-            return none;
-        }
-        let table = outcome.table;
-        let j = job as usize;
-        if table.jobs <= j {
-            return none;
-        }
-        Extent {
-            start: table.mark[j],
-            length: Table::span(table.count[j]),
+        match Table::read(bytes) {
+            Ok(table) if (job as usize) < table.jobs => table.job[job as usize].extent(),
+            _ => Extent {
+                start: bytes.len(),
+                length: 0,
+            },
         }
     }
 
     // The records of one job, as a part of the table's own bytes: empty and at the end where the table is refused or has no such job.
-    pub fn part<'a>(bytes: &'a [u8], job: u32) -> &'a [u8]
+    #[tactic(auto, using(crate::proofs::Parts::there_fits, crate::proofs::Parts::at_job))]
+    pub fn part(bytes: &[u8], job: u32) -> &[u8]
         ensures { Lies bytes.entry result (start_of bytes.now job) (part_of bytes.now job) }
     {
-        let extent = Table::extent(bytes, job);
-        let start = extent.start;
-        let end = start + extent.length;
-        &bytes[start..end]
+        let Extent { start, length } = Table::extent(bytes, job);
+        &bytes[start..start + length]
     }
 }
 
-impl Outcome {
-    fn refused(refusal: u32, place: usize) -> Outcome
-        requires { 0 < refusal }
-        ensures { (t : Tab) → result ≡ answer (record { number = refusal; place = place }) t }
+impl Job {
+    const NONE: Job = Job {
+        mark: 0,
+        release: 0,
+        base: 0,
+        first: 0,
+        count: 0,
+    };
+
+    // Where its record and its segments' records lie.
+    fn extent(self) -> Extent
+        ensures { result ≡ record { start = self.mark; length = 8 + 12 * self.count } }
     {
-        Outcome {
-            refusal,
-            place,
-            table: Table::new(),
+        Extent {
+            start: self.mark,
+            length: 8 + 12 * usize::from(self.count),
         }
     }
+}
 
-    // The answer where the bytes ended at a place.
-    fn judged(table: Table, scan: Scan, place: Place, end: usize) -> Outcome
-        ensures { (rs : List Rec) → table ≡ recorded rs → scan ≡ scan_of rs → result ≡ answer_to end (ended_at rs place end) }
+impl Segment {
+    const NONE: Segment = Segment {
+        shortest: 0,
+        longest: 0,
+        held: 0,
+    };
+}
+
+impl Fault {
+    fn at(self, place: usize) -> Refused
+        ensures { result ≡ record { fault = self; place = place } }
     {
-        if !place.may_end() {
-            return Outcome::refused(1, end);
-        }
-        let faulty = scan.faulty;
-        if let Spot::At(at) = faulty {
-            return Outcome::refused(2, at);
-        }
-        let early = scan.early;
-        if let Spot::At(at) = early {
-            return Outcome::refused(3, at);
-        }
-        if table.jobs == 0 {
-            return Outcome::refused(4, end);
-        }
-        let beyond = scan.beyond;
-        if let Spot::At(at) = beyond {
-            return Outcome::refused(4, at);
-        }
-        Outcome {
-            refusal: 0,
-            place: 0,
-            table,
-        }
+        Refused { fault: self, place }
+    }
+}
+
+impl From<Fault> for u32 {
+    ghost from_gives = { λ fault number. number ≡ fault_number fault };
+
+    fn from(fault: Fault) -> u32 {
+        fault as u32
     }
 }

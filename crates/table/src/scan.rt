@@ -1,14 +1,13 @@
 // Where the records read so far first give cause for refusals 2, 3 and 4.
-ghost use Rattle.std.specs.Prelude.{◌≡◌, [], ◌||◌, ltb, leb};
-ghost use Rattle.table.specs.Limits.{most_ticks, most_base, most_count};
+ghost use Rattle.std.specs.Prelude.{◌≡◌, []};
 ghost use Rattle.table.specs.Refusal.{learn, outside, earlier, beyond};
-ghost use Rattle.table.specs.Steps.{scan_of, scanned, first_spot};
+ghost use Rattle.table.specs.Steps.{scan_of, scanned};
 
 use crate::Table;
 use crate::records::Record;
 
 // What the records before one say: the frame length, the release of the last job, and how many jobs and segments there are.
-#[derive(Clone, Copy)]
+#[derive(Clone, Copy, Debug, PartialEq, Eq)]
 pub struct Known {
     pub frame: u32,
     pub release: u32,
@@ -16,69 +15,14 @@ pub struct Known {
     pub segments: usize,
 }
 
-// A place in the bytes, or none.
-#[derive(Clone, Copy)]
-pub enum Spot {
-    Nowhere,
-    At(usize),
-}
-
-#[derive(Clone, Copy)]
+#[derive(Clone, Copy, Debug, PartialEq, Eq)]
 pub struct Scan {
     // The release of the last job.
     pub release: u32,
-    // The first record with a number outside its bounds; the first job released earlier than the one before it; the first record beyond a limit.
-    pub faulty: Spot,
-    pub early: Spot,
-    pub beyond: Spot,
-}
-
-fn either(a: bool, b: bool) -> bool
-    ensures { result ≡ (a || b) }
-{
-    if a {
-        return true;
-    }
-    b
-}
-
-impl Spot {
-    // This place, or where there is none yet, the one here if there is cause.
-    fn or(self, cause: bool, at: usize) -> Spot
-        ensures { result ≡ first_spot self cause at }
-    {
-        match self {
-            Spot::At(first) => Spot::At(first),
-            Spot::Nowhere => {
-                if cause {
-                    return Spot::At(at);
-                }
-                Spot::Nowhere
-            }
-        }
-    }
-}
-
-fn bad_frame(frame: u32) -> bool
-    ensures { result ≡ (ltb frame 1 || ltb most_ticks frame) }
-{
-    either(frame < 1, Table::TICKS < frame)
-}
-
-fn bad_job(frame: u32, release: u32, base: u8, count: u8) -> bool
-    ensures { result ≡ (leb frame release || ltb base 1 || ltb most_base base || ltb count 1 || ltb most_count count) }
-{
-    let a = either(either(frame <= release, base < 1), Table::BASE < base);
-    either(either(a, count < 1), Table::COUNT < count)
-}
-
-fn bad_segment(shortest: u32, longest: u32) -> bool
-    ensures { result ≡ (ltb shortest 1 || ltb longest shortest || ltb most_ticks longest) }
-{
-    either(
-        either(shortest < 1, longest < shortest),
-        Table::TICKS < longest,
-    )
+    // The places of the first record with a number outside its bounds, of the first job released earlier than the one before it, and of the first record beyond a limit.
+    pub faulty: Option<usize>,
+    pub early: Option<usize>,
+    pub beyond: Option<usize>,
 }
 
 impl Known {
@@ -87,9 +31,17 @@ impl Known {
         ensures { result ≡ outside self rec }
     {
         match rec {
-            Record::Frame(frame) => bad_frame(frame),
-            Record::Job(release, base, count) => bad_job(self.frame, release, base, count),
-            Record::Segment(shortest, longest, _) => bad_segment(shortest, longest),
+            Record::Frame(frame) => frame < 1 || Table::TICKS < frame,
+            Record::Job(release, base, count) => {
+                self.frame <= release
+                    || base < 1
+                    || Table::BASE < base
+                    || count < 1
+                    || Table::COUNT < count
+            }
+            Record::Segment(shortest, longest, _) => {
+                shortest < 1 || longest < shortest || Table::TICKS < longest
+            }
         }
     }
 
@@ -98,9 +50,8 @@ impl Known {
         ensures { result ≡ earlier self rec }
     {
         match rec {
-            Record::Frame(_) => false,
             Record::Job(release, _, _) => release < self.release,
-            Record::Segment(_, _, _) => false,
+            _ => false,
         }
     }
 
@@ -110,8 +61,8 @@ impl Known {
     {
         match rec {
             Record::Frame(_) => false,
-            Record::Job(_, _, _) => Table::JOBS <= self.jobs,
-            Record::Segment(_, _, _) => Table::SEGMENTS <= self.segments,
+            Record::Job(..) => Table::JOBS <= self.jobs,
+            Record::Segment(..) => Table::SEGMENTS <= self.segments,
         }
     }
 
@@ -120,37 +71,33 @@ impl Known {
         ensures { result ≡ (learn self rec).release }
     {
         match rec {
-            Record::Frame(_) => self.release,
             Record::Job(release, _, _) => release,
-            Record::Segment(_, _, _) => self.release,
+            _ => self.release,
         }
     }
 }
 
 impl Scan {
+    #[tactic(auto, unfolding(crate::specs::Steps::scan_of, crate::specs::Steps::known_of, crate::specs::Refusal::failing))]
     pub fn new() -> Scan
         ensures { result ≡ scan_of [] }
     {
         Scan {
             release: 0,
-            faulty: Spot::Nowhere,
-            early: Spot::Nowhere,
-            beyond: Spot::Nowhere,
+            faulty: None,
+            early: None,
+            beyond: None,
         }
     }
 
     // One record more, whose mark stands at a place.
-    pub fn with(self, known: Known, at: usize, rec: Record) -> Scan
-        ensures { result ≡ scanned self known at rec }
+    #[tactic(auto, unfolding(crate::specs::Steps::scanned))]
+    pub fn push(&mut self, known: Known, at: usize, rec: Record)
+        ensures { self.new ≡ scanned self.old known at rec }
     {
-        let faulty = self.faulty;
-        let early = self.early;
-        let beyond = self.beyond;
-        Scan {
-            release: known.last_release(rec),
-            faulty: faulty.or(known.outside(rec), at),
-            early: early.or(known.earlier(rec), at),
-            beyond: beyond.or(known.beyond(rec), at),
-        }
+        self.release = known.last_release(rec);
+        self.faulty = self.faulty.or(known.outside(rec).then_some(at));
+        self.early = self.early.or(known.earlier(rec).then_some(at));
+        self.beyond = self.beyond.or(known.beyond(rec).then_some(at));
     }
 }
