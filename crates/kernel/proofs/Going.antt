@@ -1,12 +1,13 @@
 -- The loop of `run`: what is written so far, with the switches that are still to come, is the whole log.
+use Rattle.kernel.specs.declared.jobs.Jobs.{Jobs}
 use Rattle.std.proofs.Common.{ℕ, zero, suc, ◌+◌, ◌-◌, ◌*◌, ◌≤◌, ◌<◌, arith, add-one, ◌≡◌, refl, sym, ◌∙◌, ap, ◌≢◌, Bool, true, false, cond, ◌&&◌, List, [], ◌∷◌, ◌++◌, length, get_or, set, get_or-set_other, ltb, eqb, eq-eqb, ltb-true, ltb-false, eqb-true}
 use Rattle.std.proofs.lemmas.Bool.{eqb-false}
 use Rattle.std.proofs.lemmas.List.Edits.{sets}
 use Rattle.kernel.specs.Rules.{JobSet, Switch, Run, reported, dispatched, run_tick, switch_at, last_switch, over, fresh, end_segment, switches, run_of}
 use Rattle.kernel.specs.Jobs.{largest}
 use Rattle.kernel.specs.Log.{switch_words, log_words, time_in}
-use Rattle.kernel.specs.Words.{set_of, Loaded}
-use Rattle.kernel.specs.Code.{due_of, time_at, Fresh, end_step, release_step, dispatch_step, tick_step, ended, releases, released_after, settled, Settled, NoneFrom, last_words, last_count, note_words, Runs, Logged}
+use Rattle.kernel.specs.Held.{set_of, Loaded}
+use Rattle.kernel.specs.Code.{State, due_of, time_at, no_standing, segment_in, rest_in, Fresh, end_step, release_step, dispatch_step, tick_step, ended, releases, released_after, settled, Settled, NoneFrom, last_words, last_count, note_words, Runs, Logged}
 use Rattle.kernel.specs.Laws.Sums.{one_of_sum}
 use Rattle.kernel.specs.Laws.Tests.{split}
 use Rattle.kernel.specs.Laws.Control.{Positive, positive_times}
@@ -16,11 +17,11 @@ use Rattle.kernel.specs.Laws.Key.{job_of, ReleasedBy}
 use Rattle.kernel.specs.Laws.Leads.{switches_some}
 use Rattle.kernel.specs.Laws.Steps.{run_bound}
 use Rattle.kernel.specs.Laws.Shows.{Shows, shows_fresh, shows_end}
-use Rattle.kernel.specs.Laws.Serves.{shows_released, dispatches, shows_on, shows_switch}
-use Rattle.kernel.specs.declared.state.State.{State}
+use Rattle.kernel.specs.Laws.Serves.{shows_released, none_keyed, dispatches, shows_on, shows_switch}
+use Rattle.kernel.specs.declared.state.Standing.{Standing}
 use Rattle.kernel.proofs.Noted.{sets_append, log_one, note_is, last_is}
 
-module _ (w times : List ℕ) (R : Runs w times) where
+module _ (w : Jobs) (times : List ℕ) (R : Runs w times) where
   abbrev J : JobSet
   J = set_of w
 
@@ -77,10 +78,10 @@ module _ (w times : List ℕ) (R : Runs w times) where
   few before log s count tick G = omega (arith, G.counted, run_bound J L.lawful time R.within, L.few_segments, L.few_jobs)
 
   -- and few segments
-  pub few_segments : (before log : List ℕ) (s : State) (count tick : ℕ) → Going before log s count tick → s.running < J.jobs → get_or s.segment s.running 0 < 255
+  pub few_segments : (before log : List ℕ) (s : State) (count tick : ℕ) → Going before log s count tick → s.running < J.jobs → segment_in s s.running < 255
   few_segments before log s count tick G h =
       let S = G.shows in
-      let k : get_or s.segment s.running 0 ≡ get_or s.segment G.run.running 0 = ap (λ (i : ℕ). get_or s.segment i 0) S.running in
+      let k : segment_in s s.running ≡ segment_in s G.run.running = ap (segment_in s) S.running in
       let j : G.run.running < J.jobs = omega (arith, S.running) in
       omega (arith, S.segment G.run.running j, (S.on j).1, one_of_sum J.segments J.jobs G.run.running j, L.few_segments)
 
@@ -157,6 +158,10 @@ module _ (w times : List ℕ) (R : Runs w times) where
 
     pub chosen : (d : ℕ) → d ≡ job_of J.jobs (largest (λ i. get_or q.key i 0) 32) → dispatched J tick e ≡ d
     chosen d h = sym (h ∙ dispatches w L time tick q e shown out_now)
+
+    -- where it is none, there is no key
+    pub no_key : job_of J.jobs (largest (λ i. get_or q.key i 0) 32) ≡ J.jobs → largest (λ i. get_or q.key i 0) 32 ≡ 0
+    no_key h = none_keyed w L time tick q e shown out_now h
 
     -- ---- what is to come from this tick on
 
@@ -283,11 +288,11 @@ module _ (w times : List ℕ) (R : Runs w times) where
       unfolding dispatch_step
       dispatch_count = refl
 
-      pub present_is : get_or q.segment d 0 ≡ e.progress.segment d
+      pub present_is : segment_in q d ≡ e.progress.segment d
       present_is = shown.segment d h
 
       -- another job is dispatched
-      pub go_switch : d ≢ q.running → Going before (sets log (4 * count) (note_words q.due tick d (get_or q.segment d 0))) (tick_step (dispatch_step w d q)) (count + 1) (tick + 1)
+      pub go_switch : d ≢ q.running → Going before (sets log (4 * count) (note_words q.due tick d (segment_in q d))) (tick_step (dispatch_step w d q)) (count + 1) (tick + 1)
       go_switch n =
           let m : d ≢ e.running = λ x. n (x ∙ sym shown.running) in
           let (x, a, b) = note_is J q.due tick e.running d (e.progress.segment d) h m in
@@ -301,5 +306,6 @@ module _ (w times : List ℕ) (R : Runs w times) where
       unfolding dispatch_step
       can_start n =
           let m : d ≢ e.running = λ x. n (x ∙ sym shown.running) in
-          let k : get_or (set q.rest q.running q.left) d 0 ≡ get_or q.rest d 0 = get_or-set_other q.rest q.running d q.left 0 n in
+          let k : (get_or (set q.job q.running (record { segment = segment_in q q.running; rest = q.left })) d no_standing).rest ≡ rest_in q d
+          = ap (λ (x : Standing). x.rest) (get_or-set_other q.job q.running d (record { segment = segment_in q q.running; rest = q.left }) no_standing n) in
           omega (arith, shown.rest d h m live, shown.some d h m live)

@@ -1,5 +1,6 @@
 pub mod Arrays
-pub mod Keyed
+pub mod Written
+pub mod Filled
 pub mod Release
 pub mod Noted
 pub mod Going

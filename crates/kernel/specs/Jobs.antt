@@ -1,5 +1,6 @@
 -- The job set of a table: paper 01, 'The kernel, tick by tick', first paragraph.
-use Rattle.std.specs.Prelude.{ℕ, zero, suc, ◌+◌, ◌/◌, ◌%◌, ◌^◌, max, Bool, cond, get_or, ltb, eqb}
+use Rattle.std.specs.Prelude.{ℕ, zero, suc, ◌+◌, ◌/◌, ◌%◌, ◌^◌, max, Bool, cond, ltb, eqb}
+use Rattle.table.specs.Table.{the_job, the_segment}
 use Rattle.table.specs.declared.Table.{Table}
 use Rattle.kernel.specs.Rules.{JobSet}
 
@@ -23,18 +24,18 @@ locks = 16
 
 module _ (t : Table) where
   abbrev pub base_of : ℕ → ℕ
-  base_of i = get_or t.base i 0
+  base_of i = (the_job t i).base
 
   abbrev pub count_of : ℕ → ℕ
-  count_of i = get_or t.count i 0
+  count_of i = (the_job t i).count
 
   -- the number of segment k of job i in the table
   abbrev pub number_of : (i k : ℕ) → ℕ
-  number_of i k = get_or t.first i 0 + k
+  number_of i k = (the_job t i).first + k
 
   -- the locks that segment k of job i holds
   abbrev pub held_by : (i k : ℕ) → ℕ
-  held_by i k = get_or t.held (number_of i k) 0
+  held_by i k = (the_segment t (number_of i k)).held
 
   -- the base of job i if a segment of it holds the lock
   unfoldable pub user_base : (lock i : ℕ) → ℕ
@@ -78,10 +79,10 @@ unfoldable pub jobs_of : Table → JobSet
 jobs_of t = clipped (record {
   frame = t.frame;
   jobs = t.jobs;
-  release = λ i. get_or t.release i 0;
+  release = λ i. (the_job t i).release;
   base = base_of t;
   segments = count_of t;
   priority = dispatched_priority t;
-  shortest = λ i k. get_or t.shortest (number_of t i k) 0;
-  longest = λ i k. get_or t.longest (number_of t i k) 0;
+  shortest = λ i k. (the_segment t (number_of t i k)).shortest;
+  longest = λ i k. (the_segment t (number_of t i k)).longest;
 })

@@ -1,6 +1,6 @@
 pub mod Rules
 pub mod Jobs
 pub mod Log
-pub mod Words
+pub mod Held
 pub mod Code
 pub mod Laws

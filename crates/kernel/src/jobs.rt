@@ -1,98 +1,118 @@
-// The job set, lent as 322 words to all that ask it: see specs/Words.antt. A number that it does not have is 0.
-#![tactic(auto, unfolding(crate::specs::Words::set_of, crate::specs::Words::first_of, crate::specs::Jobs::clipped))]
+// The job set of a table: its jobs and its segments in table order, in rows of fixed room. A number that it does not have is 0.
+#![tactic(auto, unfolding(crate::specs::Held::set_of, crate::specs::Held::first_of, crate::specs::Held::job_at, crate::specs::Held::segment_at))]
 
-ghost use Rattle.std.specs.Prelude.{◌≡◌, ◌+◌, ◌*◌, get_or};
-ghost use Rattle.kernel.specs.Words.{set_of, first_of};
+ghost use Rattle.std.specs.Prelude.{◌≡◌};
+ghost use Rattle.kernel.specs.Held.{set_of, first_of, job_at, segment_at};
 ghost use Rattle.kernel.specs.Code.{time_at};
-ghost use Rattle.kernel.specs.Jobs.{if_job, if_segment};
 
-pub fn word_at(words: &[u32], i: usize) -> u32
-    ensures { result ≡ get_or words.now i 0 }
-{
-    if i < words.len() { words[i] } else { 0 }
+#[derive(Clone, Copy, Default)]
+pub struct Job {
+    pub release: u32,
+    pub base: u32,
+    // The number of its first segment, and how many it has.
+    pub first: u32,
+    pub segments: u32,
 }
 
-pub fn frame(set: &[u32; 322]) -> u32
-    ensures { result ≡ (set_of set.now).frame }
-{
-    word_at(set, 0)
+#[derive(Clone, Copy, Default)]
+pub struct Segment {
+    pub shortest: u32,
+    pub longest: u32,
+    // While it is dispatched.
+    pub priority: u32,
 }
 
-pub fn jobs(set: &[u32; 322]) -> usize
-    ensures { result ≡ (set_of set.now).jobs }
-{
-    word_at(set, 1) as usize
+#[derive(Clone, Copy)]
+pub struct Jobs {
+    pub frame: u32,
+    // How many of the 32 there are: nothing allocates, so the room is fixed.
+    pub count: usize,
+    pub job: [Job; 32],
+    pub segment: [Segment; 64],
 }
 
-// One of the four words of a job.
-fn job_word(set: &[u32; 322], i: usize, which: u8) -> u32
-    ensures { result ≡ if_job (set_of set.now).jobs (λ i. get_or set.now (2 + 4 * i + which) 0) i }
-{
-    let jobs = word_at(set, 1);
-    if i < jobs as usize {
-        return word_at(set, 2 + 4 * i + which as usize);
+impl Jobs {
+    fn job(&self, i: usize) -> Job
+        ensures { result ≡ job_at self.now i }
+    {
+        if i < self.count {
+            return self.job.get(i).copied().unwrap_or_default();
+        }
+        Job::default()
     }
-    0
-}
 
-pub fn release(set: &[u32; 322], i: usize) -> u32
-    ensures { result ≡ (set_of set.now).release i }
-{
-    job_word(set, i, 0)
-}
-
-pub fn base(set: &[u32; 322], i: usize) -> u32
-    ensures { result ≡ (set_of set.now).base i }
-{
-    job_word(set, i, 1)
-}
-
-pub fn first(set: &[u32; 322], i: usize) -> u32
-    ensures { result ≡ first_of set.now i }
-{
-    job_word(set, i, 2)
-}
-
-pub fn segments(set: &[u32; 322], i: usize) -> u32
-    ensures { result ≡ (set_of set.now).segments i }
-{
-    job_word(set, i, 3)
-}
-
-// One of the three words of a segment.
-fn segment_word(set: &[u32; 322], i: usize, k: u32, which: u8) -> u32
-    ensures { result ≡ if_segment (set_of set.now).segments (λ i k. get_or set.now (130 + 3 * (first_of set.now i + k) + which) 0) i k }
-{
-    if k < segments(set, i) {
-        return word_at(
-            set,
-            130 + 3 * (first(set, i) as usize + k as usize) + which as usize,
-        );
+    fn segment(&self, i: usize, k: u32) -> Segment
+        ensures { result ≡ segment_at self.now i k }
+    {
+        let job = self.job(i);
+        if k < job.segments {
+            let number = job.first as usize + k as usize;
+            return self.segment.get(number).copied().unwrap_or_default();
+        }
+        Segment::default()
     }
-    0
-}
 
-pub fn shortest(set: &[u32; 322], i: usize, k: u32) -> u32
-    ensures { result ≡ (set_of set.now).shortest i k }
-{
-    segment_word(set, i, k, 0)
-}
+    pub fn frame(&self) -> u32
+        ensures { result ≡ (set_of self.now).frame }
+    {
+        self.frame
+    }
 
-pub fn longest(set: &[u32; 322], i: usize, k: u32) -> u32
-    ensures { result ≡ (set_of set.now).longest i k }
-{
-    segment_word(set, i, k, 1)
-}
+    pub fn jobs(&self) -> usize
+        ensures { result ≡ (set_of self.now).jobs }
+    {
+        self.count
+    }
 
-pub fn priority(set: &[u32; 322], i: usize, k: u32) -> u32
-    ensures { result ≡ (set_of set.now).priority i k }
-{
-    segment_word(set, i, k, 2)
-}
+    pub fn release(&self, i: usize) -> u32
+        ensures { result ≡ (set_of self.now).release i }
+    {
+        self.job(i).release
+    }
 
-// The time of segment k of job i, of one time per segment in table order.
-pub fn time(set: &[u32; 322], times: &[u32], i: usize, k: u32) -> u32
-    ensures { result ≡ time_at set.now times.now i k }
-{
-    word_at(times, first(set, i) as usize + k as usize)
+    pub fn base(&self, i: usize) -> u32
+        ensures { result ≡ (set_of self.now).base i }
+    {
+        self.job(i).base
+    }
+
+    pub fn first(&self, i: usize) -> u32
+        ensures { result ≡ first_of self.now i }
+    {
+        self.job(i).first
+    }
+
+    pub fn segments(&self, i: usize) -> u32
+        ensures { result ≡ (set_of self.now).segments i }
+    {
+        self.job(i).segments
+    }
+
+    pub fn shortest(&self, i: usize, k: u32) -> u32
+        ensures { result ≡ (set_of self.now).shortest i k }
+    {
+        self.segment(i, k).shortest
+    }
+
+    pub fn longest(&self, i: usize, k: u32) -> u32
+        ensures { result ≡ (set_of self.now).longest i k }
+    {
+        self.segment(i, k).longest
+    }
+
+    pub fn priority(&self, i: usize, k: u32) -> u32
+        ensures { result ≡ (set_of self.now).priority i k }
+    {
+        self.segment(i, k).priority
+    }
+
+    // The time of segment k of job i, of one time per segment in table order.
+    pub fn time(&self, times: &[u32], i: usize, k: u32) -> u32
+        ensures { result ≡ time_at self.now times.now i k }
+    {
+        times
+            .get(self.first(i) as usize + k as usize)
+            .copied()
+            .unwrap_or(0)
+    }
 }

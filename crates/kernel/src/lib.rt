@@ -1,48 +1,61 @@
 // The kernel of paper 01: the job set of a table, and a run tick by tick.
 #![tactic(auto)]
 
-ghost use Rattle.kernel.specs.Code.{Runs, Logged};
+ghost use Rattle.kernel.specs.Rules.{Within};
+ghost use Rattle.kernel.specs.Held.{set_of};
+ghost use Rattle.kernel.specs.Log.{time_in};
+ghost use Rattle.kernel.specs.Code.{Logged};
 
+pub mod accepted;
 pub mod jobs;
 pub mod keys;
+pub mod kind;
 mod log;
 mod state;
+pub mod total;
+pub mod words;
 
-use state::State;
+use accepted::Accepted;
+use log::Log;
+use state::{Processor, Standings};
 
 // Runs the jobs with these times and writes the log. Answers how many switches there are.
-pub fn run(set: &[u32; 322], times: &[u32], log: &mut [u32]) -> usize
-    requires { Runs set.now times.now }
-    ensures { Logged set.now times.now log.old log.new result }
+pub fn run(set: &Accepted, times: &[u32], log: &mut [u32]) -> usize
+    requires { Within (set_of set.now.jobs) (time_in (set_of set.now.jobs) times.now) }
+    ensures { Logged set.now.jobs times.now log.old log.new result }
 {
-    let frame = jobs::frame(set);
-    let n = jobs::jobs(set);
-    let mut state = State::fresh(set, times);
-    let mut count: usize = 0;
-    let mut tick: u32 = 0;
-    while tick <= frame {
-        let ended = state.ended(set);
-        let released = state.releases(set, tick);
+    let frame = set.jobs.frame();
+    let mut standings = Standings::fresh(set, times);
+    let mut processor = Processor::idle(set);
+    let mut log = Log {
+        words: log,
+        count: 0,
+    };
+    // Not `0..=frame`: that loop ends in two places, and the proof of the second repeats that of a turn.
+    for tick in 0..frame + 1 {
+        let ended = processor.ended(set);
+        let released = processor.releases(set, tick);
         if ended {
-            state = state.end_segment(set, times, tick);
+            processor.end_segment(&mut standings, set, times, tick);
         }
         if released {
-            state = state.release(set, tick);
+            processor.release(&mut standings, set, tick);
         }
-        let d = state.dispatched(set);
-        if d == n {
-            if state::none_from(set, state.released) {
-                let due = state.due;
-                return log::last(log, count, due);
+        match standings.dispatched() {
+            None => {
+                if state::none_from(set, processor.released) {
+                    log.last(processor.due);
+                    return log.count;
+                }
             }
-        } else if d == state.running {
-            state = state.run_tick();
-        } else {
-            let due = state.due;
-            count = log::note(log, count, due, tick, d as u32, state.present(d));
-            state = state.dispatch(set, d).run_tick();
+            Some(d) => {
+                if d != processor.running {
+                    log.note(processor.due, tick, d as u32, standings.present(d));
+                    processor.dispatch(&mut standings, set, d);
+                }
+                processor.run_tick();
+            }
         }
-        tick += 1;
     }
-    count
+    log.count
 }

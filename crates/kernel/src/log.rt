@@ -1,51 +1,58 @@
-// The log of a run, four words a switch.
-ghost use Rattle.std.specs.Prelude.{◌≡◌, ◌+◌, ◌*◌, ◌<◌, set};
+// The log of a run in lent words, four words a switch.
+ghost use Rattle.std.specs.Prelude.{◌≡◌, ◌+◌, ◌*◌, ◌<◌};
 ghost use Rattle.std.proofs.lemmas.List.Edits.{sets};
 ghost use Rattle.kernel.specs.Code.{four_words, last_words, last_count, note_words};
 
-use crate::state::{Due, Kind};
+use crate::kind::Kind;
+use crate::state::Due;
+use crate::words;
 
-fn store(log: &mut [u32], i: usize, v: u32)
-    ensures { log.new ≡ set log.old i v }
-{
-    if i < log.len() {
-        log[i] = v;
+#[derive(Drop)]
+pub struct Log<'a> {
+    pub words: &'a mut [u32],
+    // How many switches there are, with or without room. Each method asks that there may be one more, which no invariant of the log can say.
+    pub count: usize,
+}
+
+impl<'a> Log<'a> {
+    // One switch more.
+    fn put(&mut self, kind: Kind, tick: u32, job: u32, segment: u32)
+        requires { self.old.count < 4096 }
+        ensures lent { self.new.words.ghost_name ≡ self.old.words.ghost_name }
+        ensures count { self.new.count ≡ self.old.count + 1 }
+        ensures words { self.new.words.now ≡ sets self.old.words.now (4 * self.old.count) (four_words kind tick job segment) }
+    {
+        words::write(
+            self.words,
+            4 * self.count,
+            &[u32::from(kind), tick, job, segment],
+        );
+        self.count += 1;
     }
-}
 
-// One switch more.
-fn put(log: &mut [u32], count: usize, kind: Kind, tick: u32, job: u32, segment: u32) -> usize
-    requires { count < 4096 }
-    ensures { (result ≡ count + 1) × (log.new ≡ sets log.old (4 * count) (four_words kind tick job segment)) }
-{
-    let i = 4 * count;
-    store(log, i, kind.number());
-    store(log, i + 1, tick);
-    store(log, i + 2, job);
-    store(log, i + 3, segment);
-    count + 1
-}
-
-// The last switch: an END with neither job nor segment.
-pub fn last(log: &mut [u32], count: usize, due: Due) -> usize
-    requires { count < 4096 }
-    ensures { (result ≡ count + last_count due) × (log.new ≡ sets log.old (4 * count) (last_words due)) }
-{
-    match due {
-        Due::First => count,
-        Due::Cutting => count,
-        Due::Leaving(kind, tick) => put(log, count, kind, tick, 4294967295, 4294967295),
+    // The last switch: an END with neither job nor segment.
+    pub fn last(&mut self, due: Due)
+        requires { self.old.count < 4096 }
+        ensures lent { self.new.words.ghost_name ≡ self.old.words.ghost_name }
+        ensures count { self.new.count ≡ self.old.count + last_count due }
+        ensures words { self.new.words.now ≡ sets self.old.words.now (4 * self.old.count) (last_words due) }
+    {
+        if let Due::Leaving(kind, tick) = due {
+            self.put(kind, tick, u32::MAX, u32::MAX);
+        }
     }
-}
 
-// The switch that the dispatch of segment k of job d reports at a tick, where another job ran before.
-pub fn note(log: &mut [u32], count: usize, due: Due, tick: u32, d: u32, k: u32) -> usize
-    requires { count < 4096 }
-    ensures { (result ≡ count + 1) × (log.new ≡ sets log.old (4 * count) (note_words due tick d k)) }
-{
-    match due {
-        Due::First => put(log, count, Kind::First, tick, d, k),
-        Due::Cutting => put(log, count, Kind::Cut, tick, d, k),
-        Due::Leaving(kind, left) => put(log, count, kind, left, d, k),
+    // The switch that the dispatch of segment k of job d reports at a tick, where another job ran before.
+    pub fn note(&mut self, due: Due, tick: u32, d: u32, k: u32)
+        requires { self.old.count < 4096 }
+        ensures lent { self.new.words.ghost_name ≡ self.old.words.ghost_name }
+        ensures count { self.new.count ≡ self.old.count + 1 }
+        ensures words { self.new.words.now ≡ sets self.old.words.now (4 * self.old.count) (note_words due tick d k) }
+    {
+        match due {
+            Due::First => self.put(Kind::First, tick, d, k),
+            Due::Cutting => self.put(Kind::Cut, tick, d, k),
+            Due::Leaving(kind, left) => self.put(kind, left, d, k),
+        }
     }
 }

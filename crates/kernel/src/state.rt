@@ -1,20 +1,12 @@
-// Where a run stands, by value: each step of a tick takes the state and returns the next.
-ghost use Rattle.std.specs.Prelude.{◌≡◌, ◌&&◌, ◌≤◌, ◌<◌, get_or, set, ltb, leb, eqb};
+// Where a run stands, and the steps of a tick.
+ghost use Rattle.std.specs.Prelude.{ℕ, ◌≡◌, ◌&&◌, ◌≤◌, ◌<◌, get_or, set, ltb, leb, eqb};
 ghost use Rattle.kernel.specs.Jobs.{largest};
-ghost use Rattle.kernel.specs.Log.{kind_number};
-ghost use Rattle.kernel.specs.Words.{set_of, Loaded};
-ghost use Rattle.kernel.specs.Code.{kind_of, leave_kind_at, NoneFrom, Fresh, end_step, release_step, dispatch_step, tick_step, Released};
+ghost use Rattle.kernel.specs.Held.{set_of};
+ghost use Rattle.kernel.specs.Code.{idle, state_of, no_standing, job_or, segment_in, NoneFrom, Fresh, end_step, release_step, dispatch_step, tick_step, Released};
 ghost use Rattle.kernel.specs.Laws.Key.{job_of};
 
-use crate::{jobs, keys};
-
-#[derive(Clone, Copy)]
-pub enum Kind {
-    First,
-    End,
-    Step,
-    Cut,
-}
+use crate::accepted::Accepted;
+use crate::kind::Kind;
 
 // What the next dispatch will report.
 #[derive(Clone, Copy)]
@@ -25,15 +17,27 @@ pub enum Due {
     Leaving(Kind, u32),
 }
 
-#[derive(Clone, Copy)]
-pub struct State {
-    // Of each job: its present segment; what is left of that where the job does not run; once it is released, its key (see specs/Laws/Key.antt).
-    pub segment: [u8; 32],
-    pub rest: [u32; 32],
+// Where a job stands: its present segment, and what is left of that where the job does not run.
+#[derive(Clone, Copy, Default)]
+pub struct Standing {
+    pub segment: u8,
+    pub rest: u32,
+}
+
+// Where the jobs stand. It and Processor are two values, so that the numbers of a tick stay in registers: what is indexed lies in memory.
+#[derive(Drop)]
+pub struct Standings {
+    pub job: [Standing; 32],
+    // Of each job, once it is released, its key (see specs/Laws/Key.antt); in a row of their own, since many are compared at a time.
     pub key: [u16; 32],
+}
+
+// What the processor does.
+#[derive(Clone, Copy)]
+pub struct Processor {
     // How many jobs are released.
     pub released: usize,
-    // The job that had the last tick, and what is left of its segment.
+    // The job that had the last tick, and what is left of its segment. As in specs/Rules.antt, the number of jobs stands for none.
     pub running: usize,
     pub left: u32,
     pub due: Due,
@@ -44,217 +48,156 @@ pub struct State {
 fn top(key: &[u16; 32]) -> u16
     ensures { result ≡ largest (λ i. get_or key.now i 0) 32 }
 {
-    let mut best: u16 = 0;
-    let mut i: usize = 0;
-    while i < 32 {
-        let k = key[i];
-        if best < k {
-            best = k;
-        }
-        i += 1;
+    let mut best = 0;
+    for k in key {
+        best = best.max(*k);
     }
     best
 }
 
-fn widened(x: u8) -> u32
-    ensures { result ≡ x }
-{
-    x as u32
-}
-
-// What is left of the job that ran before, where one did.
-fn kept(rest: [u32; 32], j: usize, left: u32) -> [u32; 32]
-    ensures { result ≡ set rest j left }
-{
-    let mut after = rest;
-    if j < 32 {
-        after[j] = left;
-    }
-    after
-}
-
-// END where the job has no segment k, else STEP.
-fn leave_kind(set: &[u32; 322], i: usize, k: u32) -> Kind
-    ensures { result ≡ leave_kind_at (set_of set.now) i k }
-{
-    if k < jobs::segments(set, i) {
-        return Kind::Step;
-    }
-    Kind::End
-}
-
 // No job from m on has a segment.
-pub fn none_from(set: &[u32; 322], m: usize) -> bool
-    ensures { NoneFrom (set_of set.now) m result }
+pub fn none_from(set: &Accepted, m: usize) -> bool
+    ensures { NoneFrom (set_of set.now.jobs) m result }
 {
-    let n = jobs::jobs(set);
-    let mut i = m;
-    while i < n {
-        if 0 < jobs::segments(set, i) {
+    // A `for`, as the proof of `all` at a closure that calls `segments` did not close.
+    for i in m..set.jobs.jobs() {
+        if 0 < set.jobs.segments(i) {
             return false;
         }
-        i += 1;
     }
     true
 }
 
-impl Kind {
-    pub fn number(self) -> u32
-        ensures { result ≡ kind_number (kind_of self) }
+impl Standings {
+    // No job has begun.
+    #[tactic(auto, using(crate::proofs::Filled::one_filled))]
+    pub fn fresh(set: &Accepted, times: &[u32]) -> Standings
+        ensures { Fresh set.now.jobs times.now (state_of result (idle set.now.jobs)) }
     {
-        match self {
-            Kind::First => 0,
-            Kind::End => 1,
-            Kind::Step => 2,
-            Kind::Cut => 3,
+        // A `for`, as the proof of `array::from_fn` at a closure that calls `time` did not close.
+        let mut job = [Standing {
+            segment: 0,
+            rest: 0,
+        }; 32];
+        for (i, standing) in job.iter_mut().enumerate() {
+            standing.rest = set.jobs.time(times, i, 0);
         }
+        Standings { job, key: [0; 32] }
+    }
+
+    // The job that is dispatched, where one is ready.
+    #[tactic(auto, unfolding(crate::specs::Laws::Key::job_of, crate::specs::Laws::Tests::iflt))]
+    pub fn dispatched(&self) -> Option<usize>
+        ensures { (none : ℕ) → job_or none result ≡ job_of none (largest (λ i. get_or self.now.key i 0) 32) }
+    {
+        let best = top(&self.key);
+        if best == 0 {
+            return None;
+        }
+        Some(31 - usize::from(best % 32))
+    }
+
+    // The present segment of a job.
+    pub fn present(&self, d: usize) -> u32
+        requires { d < 32 }
+        ensures { result ≡ (get_or self.now.job d no_standing).segment }
+    {
+        u32::from(self.job[d].segment)
     }
 }
 
-impl State {
+impl Processor {
     // No job has begun.
-    pub fn fresh(set: &[u32; 322], times: &[u32]) -> State
-        ensures { Fresh set.now times.now result }
+    pub fn idle(set: &Accepted) -> Processor
+        ensures { result ≡ idle set.now.jobs }
     {
-        let mut rest = [0u32; 32];
-        let mut i: usize = 0;
-        while i < 32 {
-            rest[i] = jobs::time(set, times, i, 0);
-            i += 1;
-        }
-        State {
-            segment: [0u8; 32],
-            rest,
-            key: [0u16; 32],
+        Processor {
             released: 0,
-            running: jobs::jobs(set),
+            running: set.jobs.jobs(),
             left: 0,
             due: Due::First,
         }
     }
 
     // The running segment has had its time.
-    pub fn ended(self, set: &[u32; 322]) -> bool
-        ensures { result ≡ (ltb self.running (set_of set.now).jobs && eqb self.left 0) }
+    pub fn ended(&self, set: &Accepted) -> bool
+        ensures { result ≡ (ltb self.now.running (set_of set.now.jobs).jobs && eqb self.now.left 0) }
     {
-        if self.running < jobs::jobs(set) {
-            return self.left == 0;
-        }
-        false
+        self.running < set.jobs.jobs() && self.left == 0
     }
 
     // 1. The running segment ends. The job is finished, or moves to its next segment.
     #[tactic(auto, unfolding(crate::specs::Code::end_step))]
-    pub fn end_segment(mut self, set: &[u32; 322], times: &[u32], tick: u32) -> State
-        requires { Loaded set.now × (self.running < 32) × (get_or self.segment self.running 0 < 255) }
-        ensures { result ≡ end_step set.now times.now tick self }
+    pub fn end_segment(
+        &mut self,
+        standings: &mut Standings,
+        set: &Accepted,
+        times: &[u32],
+        tick: u32,
+    )
+        requires { (self.old.running < 32) × (segment_in (state_of standings.old self.old) self.old.running < 255) }
+        ensures { state_of standings.new self.new ≡ end_step set.now.jobs times.now tick (state_of standings.old self.old) }
     {
         let j = self.running;
-        let k = self.segment[j] + 1;
-        let kind = leave_kind(set, j, k as u32);
-        self.segment[j] = k;
-        self.rest[j] = jobs::time(set, times, j, k as u32);
-        self.key[j] = keys::ready_key(set, j, k as u32, true);
-        let segment = self.segment;
-        let rest = self.rest;
-        let key = self.key;
-        State {
-            segment,
-            rest,
-            key,
-            released: self.released,
-            running: jobs::jobs(set),
-            left: 0,
-            due: Due::Leaving(kind, tick),
-        }
+        let segment = standings.job[j].segment + 1;
+        let k = u32::from(segment);
+        let rest = set.jobs.time(times, j, k);
+        standings.job[j] = Standing { segment, rest };
+        standings.key[j] = set.ready_key(j, k, true);
+        self.running = set.jobs.jobs();
+        self.left = 0;
+        self.due = Due::Leaving(set.leave_kind(j, k), tick);
     }
 
     // A job is released at this tick.
-    pub fn releases(self, set: &[u32; 322], tick: u32) -> bool
-        ensures { result ≡ (ltb self.released (set_of set.now).jobs && leb ((set_of set.now).release self.released) tick) }
+    pub fn releases(&self, set: &Accepted, tick: u32) -> bool
+        ensures { result ≡ (ltb self.now.released (set_of set.now.jobs).jobs && leb ((set_of set.now.jobs).release self.now.released) tick) }
     {
-        let m = self.released;
-        if m < jobs::jobs(set) {
-            return jobs::release(set, m) <= tick;
-        }
-        false
+        self.released < set.jobs.jobs() && set.jobs.release(self.released) <= tick
     }
 
     // 2. Jobs released at this tick become ready.
-    pub fn release(self, set: &[u32; 322], tick: u32) -> State
-        requires { Loaded set.now }
-        ensures { Released set.now tick self result }
+    #[tactic(auto, using(crate::proofs::Release::none_released, crate::proofs::Release::one_released, crate::proofs::Release::releases_job))]
+    pub fn release(&mut self, standings: &mut Standings, set: &Accepted, tick: u32)
+        ensures { Released set.now.jobs tick (state_of standings.old self.old) (state_of standings.new self.new) }
     {
-        let mut state = self;
-        while state.releases(set, tick) {
-            state = state.release_one(set);
+        while self.releases(set, tick) {
+            self.release_one(standings, set);
         }
-        state
     }
 
     #[tactic(auto, unfolding(crate::specs::Code::release_step))]
-    fn release_one(mut self, set: &[u32; 322]) -> State
-        requires { Loaded set.now × (self.released < 32) }
-        ensures { result ≡ release_step set.now self }
+    fn release_one(&mut self, standings: &mut Standings, set: &Accepted)
+        requires { self.old.released < 32 }
+        ensures { state_of standings.new self.new ≡ release_step set.now.jobs (state_of standings.old self.old) }
     {
         let m = self.released;
-        self.key[m] = keys::ready_key(set, m, 0, false);
-        self.released = m + 1;
-        self
+        standings.key[m] = set.ready_key(m, 0, false);
+        self.released += 1;
     }
 
-    // 3. The job that is dispatched; the number of jobs where none is ready.
-    #[tactic(auto, unfolding(crate::specs::Laws::Key::job_of, crate::specs::Laws::Tests::iflt))]
-    pub fn dispatched(self, set: &[u32; 322]) -> usize
-        ensures { result ≡ job_of (set_of set.now).jobs (largest (λ i. get_or self.key i 0) 32) }
-    {
-        let key = self.key;
-        let best = top(&key);
-        if best == 0 {
-            return jobs::jobs(set);
-        }
-        31 - (best % 32) as usize
-    }
-
-    // The present segment of a job.
-    pub fn present(self, d: usize) -> u32
-        requires { d < 32 }
-        ensures { result ≡ get_or self.segment d 0 }
-    {
-        widened(self.segment[d])
-    }
-
-    // Another job than the running one is dispatched.
+    // 3. Another job than the running one is dispatched. What is left of that, where one ran, is kept.
     #[tactic(auto, unfolding(crate::specs::Code::dispatch_step))]
-    pub fn dispatch(mut self, set: &[u32; 322], d: usize) -> State
-        requires { Loaded set.now × (d < 32) }
-        ensures { result ≡ dispatch_step set.now d self }
+    pub fn dispatch(&mut self, standings: &mut Standings, set: &Accepted, d: usize)
+        requires { d < 32 }
+        ensures { state_of standings.new self.new ≡ dispatch_step set.now.jobs d (state_of standings.old self.old) }
     {
-        let j = self.running;
-        let k = self.present(d);
-        let rest = kept(self.rest, j, self.left);
-        self.key[d] = keys::ready_key(set, d, k, true);
-        let segment = self.segment;
-        let key = self.key;
-        let left = rest[d];
-        State {
-            segment,
-            rest,
-            key,
-            released: self.released,
-            running: d,
-            left,
-            due: Due::Cutting,
+        let k = standings.present(d);
+        if self.running < 32 {
+            standings.job[self.running].rest = self.left;
         }
+        standings.key[d] = set.ready_key(d, k, true);
+        self.running = d;
+        self.left = standings.job[d].rest;
+        self.due = Due::Cutting;
     }
 
     // 4. The dispatched job runs for one tick.
     #[tactic(auto, unfolding(crate::specs::Code::tick_step))]
-    pub fn run_tick(mut self) -> State
-        requires { 1 ≤ self.left }
-        ensures { result ≡ tick_step self }
+    pub fn run_tick(&mut self)
+        requires { 1 ≤ self.old.left }
+        ensures { (s : Standings) → state_of s self.new ≡ tick_step (state_of s self.old) }
     {
-        self.left = self.left - 1;
-        self
+        self.left -= 1;
     }
 }

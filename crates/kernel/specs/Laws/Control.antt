@@ -5,6 +5,12 @@ use Rattle.kernel.specs.Rules.{JobSet, Progress, put, begun, Within}
 use Rattle.kernel.specs.Laws.Tests.{iflt, if-ge}
 use Rattle.kernel.specs.Laws.Pick.{pick, next, first_above, Released}
 
+-- a job that has a segment
+pub record Worker (J : JobSet) : Type 0 where
+  pub job : ℕ
+  pub inside : job < J.jobs
+  pub some : 0 < J.segments job
+
 -- The laws of the job set of a table. The job number that stands for none has nothing.
 pub record Lawful (J : JobSet) : Type 0 where
   pub sorted : (i j : ℕ) → i ≤ j → j < J.jobs → J.release i ≤ J.release j
@@ -13,9 +19,8 @@ pub record Lawful (J : JobSet) : Type 0 where
   pub ordered : (i k : ℕ) → i < J.jobs → k < J.segments i → J.shortest i k ≤ J.longest i k
   pub none_released : J.release J.jobs ≡ 0
   pub none_segments : J.segments J.jobs ≡ 0
-  pub worker : ℕ
-  pub worker_inside : worker < J.jobs
-  pub worker_some : 0 < J.segments worker
+  -- there is one
+  pub worker : ∥ Worker J ∥₁
 
 -- every segment takes at least one tick
 abbrev pub Positive : JobSet → (ℕ → ℕ → ℕ) → Type 0

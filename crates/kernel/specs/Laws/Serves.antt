@@ -1,5 +1,6 @@
 -- Steps 2 to 4 of a tick on the state that the code holds: jobs are released, one is dispatched, it runs for one tick.
-use Rattle.std.specs.Prelude.{◌≡◌, ◌≢◌, true, false, List, get_or, set, ltb, leb}
+use Rattle.kernel.specs.declared.jobs.Jobs.{Jobs}
+use Rattle.std.specs.Prelude.{◌≡◌, ◌≢◌, true, false, get_or, set, ltb, leb}
 use Rattle.std.proofs.Math.Path.{refl, sym, ap, ap₂}
 use Rattle.std.proofs.Common.{◌∙◌, get_or-set_same, lt-ltb, le-leb, ltb-true, leb-true}
 use Prim.Native.Nat.{ℕ, zero, suc, ◌+◌, ◌-◌, ◌≤◌, ◌<◌}
@@ -9,22 +10,22 @@ use Rattle.std.proofs.Math.ListN.{length, length-set}
 use Rattle.std.proofs.Math.Seq.{get_or-set_other}
 use Rattle.kernel.specs.Rules.{JobSet, Progress, Run, one_tick, best}
 use Rattle.kernel.specs.Jobs.{largest}
-use Rattle.kernel.specs.Words.{set_of, Loaded}
-use Rattle.kernel.specs.Code.{weight_at, release_step, dispatch_step, tick_step, releases, released_after, Released}
+use Rattle.kernel.specs.Held.{set_of, Loaded}
+use Rattle.kernel.specs.Code.{State, weight_at, no_standing, segment_in, rest_in, release_step, dispatch_step, tick_step, releases, released_after, Released}
 use Rattle.kernel.specs.Laws.Tests.{split, if-lt, if-ge, both_true}
 use Rattle.kernel.specs.Laws.Largest.{largest_past, largest_same}
 use Rattle.kernel.specs.Laws.Places.{put_same, put_other}
-use Rattle.kernel.specs.Laws.Pick.{rank, rank_eq, pick}
+use Rattle.kernel.specs.Laws.Pick.{heaviest, rank, rank_eq, pick}
 use Rattle.kernel.specs.Laws.Control.{control_of, weight, released}
 use Rattle.kernel.specs.Laws.Choice.{choice}
 use Rattle.kernel.specs.Laws.Ticks.{serving}
-use Rattle.kernel.specs.Laws.Key.{key_of, job_of, key_none, top_job, ReleasedBy}
+use Rattle.kernel.specs.Laws.Key.{key_of, job_of, key_none, top_key, top_job, ReleasedBy}
 use Rattle.kernel.specs.Laws.Shows.{Shows, had_begun, weight_begun, weight_fresh, weight_same}
-use Rattle.kernel.specs.declared.state.State.{State}
+use Rattle.kernel.specs.declared.state.Standing.{Standing}
 
 -- ---- 2. jobs are released
 
-module _ (w : List ℕ) (L : Loaded w) (time : ℕ → ℕ → ℕ) (tick : ℕ) where
+module _ (w : Jobs) (L : Loaded w) (time : ℕ → ℕ → ℕ) (tick : ℕ) where
   abbrev J : JobSet
   J = set_of w
 
@@ -38,8 +39,7 @@ module _ (w : List ℕ) (L : Loaded w) (time : ℕ → ℕ → ℕ) (tick : ℕ)
       let new : v ≡ key_of (weight J (control_of r.progress) m) m
       = ap (λ (x : ℕ). key_of x m) (sym (weight_fresh J r.progress m (S.idle m (omega arith) h).0 (S.idle m (omega arith) h).1)) in
       record {
-        segments = S.segments;
-        rests = S.rests;
+        jobs = S.jobs;
         keys = simp length-set S.keys;
         segment = S.segment;
         rest = S.rest;
@@ -105,7 +105,7 @@ module _ (w : List ℕ) (L : Loaded w) (time : ℕ → ℕ → ℕ) (tick : ℕ)
 
 -- ---- 3. one is dispatched
 
-module _ (w : List ℕ) (L : Loaded w) (time : ℕ → ℕ → ℕ) (tick : ℕ) (s : State) (r : Run) (S : Shows (set_of w) time s r)
+module _ (w : Jobs) (L : Loaded w) (time : ℕ → ℕ → ℕ) (tick : ℕ) (s : State) (r : Run) (S : Shows (set_of w) time s r)
     (R : ReleasedBy (set_of w).jobs (set_of w).release tick s.released) where
   abbrev p : Progress
   p = r.progress
@@ -126,14 +126,27 @@ module _ (w : List ℕ) (L : Loaded w) (time : ℕ → ℕ → ℕ) (tick : ℕ)
       let z : weight (set_of w) (control_of p) n ≡ 0 = (released (set_of w) L.lawful (control_of p)).v_n in
       split tick ((set_of w).release n) (λ h. if-lt tick ((set_of w).release n) 0 _ h) (λ h. if-ge tick ((set_of w).release n) 0 _ h ∙ z)
 
+  -- the largest key is that of the largest weight
+  keyed : largest (λ i. get_or s.key i 0) 32 ≡ largest (λ i. key_of (v i) i) (set_of w).jobs
+  keyed =
+      let n : ℕ = (set_of w).jobs in
+      let e : 32 ≡ (32 - n) + n = omega (arith, L.few_jobs) in
+      ap (largest (λ i. get_or s.key i 0)) e
+      ∙ largest_past (λ i. get_or s.key i 0) n (32 - n) (λ i h. S.no_key i (omega (arith, S.released)))
+      ∙ largest_same (λ i. get_or s.key i 0) (λ i. key_of (v i) i) n key_is
+
+  -- where it is that of no job, there is no key
+  pub none_keyed : job_of (set_of w).jobs (largest (λ i. get_or s.key i 0) 32) ≡ (set_of w).jobs → largest (λ i. get_or s.key i 0) 32 ≡ 0
+  none_keyed h =
+      let n : ℕ = (set_of w).jobs in
+      let d : heaviest v n n ≡ n = sym (ap (job_of n) keyed ∙ top_job v n L.few_jobs none_counts n (omega arith)) ∙ h in
+      keyed ∙ top_key v n L.few_jobs none_counts n (omega arith) ∙ ap (λ (i : ℕ). key_of (v i) i) d ∙ key_none (v n) n none_counts
+
   -- the job of the largest key is the one that the rules dispatch
   pub dispatches : job_of (set_of w).jobs (largest (λ i. get_or s.key i 0) 32) ≡ best (set_of w) p tick (set_of w).jobs
   dispatches =
       let n : ℕ = (set_of w).jobs in
-      let e : 32 ≡ (32 - n) + n = omega (arith, L.few_jobs) in
-      ap (λ (m : ℕ). job_of n (largest (λ i. get_or s.key i 0) m)) e
-      ∙ ap (job_of n) (largest_past (λ i. get_or s.key i 0) n (32 - n) (λ i h. S.no_key i (omega (arith, S.released)))
-      ∙ largest_same (λ i. get_or s.key i 0) (λ i. key_of (v i) i) n key_is)
+      ap (job_of n) keyed
       ∙ top_job v n L.few_jobs none_counts n (omega arith)
       ∙ sym (choice (set_of w) L.lawful p tick ∙ unfold pick in refl)
 
@@ -166,8 +179,7 @@ module _ (J : JobSet) (time : ℕ → ℕ → ℕ) (s : State) (r : Run) (S : Sh
   shows_on e some =
       let x : d < J.jobs → s.left + r.progress.had d ≡ time d (r.progress.segment d) = rw e S.left in
       record {
-        segments = S.segments;
-        rests = S.rests;
+        jobs = S.jobs;
         keys = S.keys;
         segment = S.segment;
         rest = λ i q n l. omega (arith, had_other i n, S.rest i q (λ z. n (z ∙ sym e)) l);
@@ -188,24 +200,31 @@ module _ (J : JobSet) (time : ℕ → ℕ → ℕ) (s : State) (r : Run) (S : Sh
       }
 
   -- another job is dispatched, and what is left of the running one is kept
-  module _ (n : d ≢ r.running) (some : r.running < J.jobs → 1 ≤ s.left) (few : J.jobs ≤ 32) (w : List ℕ) (same : J ≡ set_of w) where
-    kept : List ℕ
-    kept = set s.rest s.running s.left
+  module _ (n : d ≢ r.running) (some : r.running < J.jobs → 1 ≤ s.left) (few : J.jobs ≤ 32) (w : Jobs) (same : J ≡ set_of w) where
+    kept : ℕ → Standing
+    kept i = get_or (set s.job s.running (record { segment = segment_in s s.running; rest = s.left })) i no_standing
 
-    kept_here : r.running < J.jobs → get_or kept r.running 0 ≡ s.left
+    kept_here : r.running < J.jobs → kept r.running ≡ record { segment = segment_in s r.running; rest = s.left }
     unfolding kept
-    kept_here q = rw S.running (get_or-set_same s.rest r.running s.left 0 (omega (arith, S.rests)))
+    kept_here q = rw S.running (get_or-set_same s.job r.running (record { segment = segment_in s r.running; rest = s.left }) no_standing (omega (arith, S.jobs)))
 
-    kept_other : (i : ℕ) → i ≢ r.running → get_or kept i 0 ≡ get_or s.rest i 0
+    kept_other : (i : ℕ) → i ≢ r.running → kept i ≡ get_or s.job i no_standing
     unfolding kept
-    kept_other i q = rw S.running (get_or-set_other s.rest r.running i s.left 0 q)
+    kept_other i q = rw S.running (get_or-set_other s.job r.running i (record { segment = segment_in s r.running; rest = s.left }) no_standing q)
 
-    rest_of_d : get_or kept d 0 + r.progress.had d ≡ time d (r.progress.segment d)
-    rest_of_d = omega (arith, kept_other d n, S.rest d h n live)
+    rest_of_d : (kept d).rest + r.progress.had d ≡ time d (r.progress.segment d)
+    rest_of_d = omega (arith, ap (λ (x : Standing). x.rest) (kept_other d n), S.rest d h n live)
+
+    -- each job stays in its segment
+    kept_segment : (i : ℕ) → i < J.jobs → (kept i).segment ≡ segment_in s i
+    kept_segment i q = elim (ℕ_discrete i r.running) [
+      | yes e ↦ rw e (ap (λ (x : Standing). x.segment) (kept_here (rw e at q)))
+      | no e ↦ ap (λ (x : Standing). x.segment) (kept_other i e)
+    ]
 
     -- what holds of each other job, whether it ran before or not
-    each : (P : ℕ → ℕ → Type 0) → (r.running < J.jobs → P r.running s.left) → ((i : ℕ) → i < J.jobs → i ≢ r.running → P i (get_or s.rest i 0))
-        → (i : ℕ) → i < J.jobs → P i (get_or kept i 0)
+    each : (P : ℕ → ℕ → Type 0) → (r.running < J.jobs → P r.running s.left) → ((i : ℕ) → i < J.jobs → i ≢ r.running → P i (rest_in s i))
+        → (i : ℕ) → i < J.jobs → P i (kept i).rest
     each P a b i q = elim (ℕ_discrete i r.running) [
       | yes e ↦ rw (e, kept_here (rw e at q)) (a (rw e at q))
       | no e ↦ rw (kept_other i e) (b i q e)
@@ -214,15 +233,14 @@ module _ (J : JobSet) (time : ℕ → ℕ → ℕ) (s : State) (r : Run) (S : Sh
     pub shows_switch : Shows J time (tick_step (dispatch_step w d s)) (serving after d)
     unfolding tick_step dispatch_step kept
     shows_switch =
-        let v : ℕ = key_of (weight_at (set_of w) d (get_or s.segment d 0) true) d in
+        let v : ℕ = key_of (weight_at (set_of w) d (segment_in s d) true) d in
         let in-key : d < length s.key = omega (arith, S.keys) in
         let new : v ≡ key_of (weight J (control_of after) d) d
         = ap₂ (λ (K : JobSet) (k : ℕ). key_of (weight_at K d k true) d) (sym same) (S.segment d h) ∙ ap (λ (x : ℕ). key_of x d) (sym weight_here) in
         record {
-          segments = S.segments;
-          rests = simp length-set S.rests;
+          jobs = simp length-set S.jobs;
           keys = simp length-set S.keys;
-          segment = S.segment;
+          segment = λ i q. kept_segment i q ∙ S.segment i q;
           rest = λ i q z l. each (λ i x. i ≢ d → r.progress.segment i < J.segments i → x + after.had i ≡ time i (r.progress.segment i))
               (λ g y l. omega (arith, had_other r.running y, S.left g))
               (λ i q e y l. omega (arith, had_other i y, S.rest i q e l))

@@ -1,18 +1,19 @@
 -- The state that the code holds shows where a run of the rules stands, and each step of the code moves it as the rules do.
+use Rattle.kernel.specs.declared.jobs.Jobs.{Jobs}
 use Rattle.std.specs.Prelude.{◌≡◌, refl, ◌≢◌, Bool, true, false, ◌||◌, List, ℕ, ◌+◌, ◌≤◌, ◌<◌, length, set, ltb}
 use Rattle.std.proofs.Math.Path.{sym, ap}
 use Rattle.std.proofs.Common.{◌∙◌, arith, get_or-set_same, get_or-set_other, lt-ltb, le-ltb, eq-eqb, ne_eqb}
 use Rattle.std.proofs.Math.Decide.{ℕ_discrete}
 use Rattle.std.proofs.Math.ListN.{get_or, length-set}
 use Rattle.kernel.specs.Rules.{JobSet, Progress, begun, put, cutting, leaving, Run, next_segment, fresh, leave_kind}
-use Rattle.kernel.specs.Words.{set_of, Loaded}
-use Rattle.kernel.specs.Code.{kind_of, due_of, weight_at, time_at, leave_kind_at, Fresh, end_step}
+use Rattle.kernel.specs.Held.{set_of, Loaded}
+use Rattle.kernel.specs.Code.{State, kind_of, due_of, weight_at, time_at, leave_kind_at, no_standing, segment_in, rest_in, Fresh, end_step}
 use Rattle.kernel.specs.Laws.Tests.{split}
 use Rattle.kernel.specs.Laws.Places.{put_same, put_other}
 use Rattle.kernel.specs.Laws.Control.{control_of, weight, Positive}
 use Rattle.kernel.specs.Laws.Key.{key_of}
 use Rattle.kernel.specs.Laws.Ticks.{after_end}
-use Rattle.kernel.specs.declared.state.State.{State}
+use Rattle.kernel.specs.declared.state.Standing.{Standing}
 
 -- ---- weights of a progress
 
@@ -54,12 +55,11 @@ set_put l f n j v h q i l' = elim (ℕ_discrete i j) [
 
 module _ (J : JobSet) (time : ℕ → ℕ → ℕ) where
   pub record Shows (s : State) (r : Run) : Type 0 where
-    pub segments : length s.segment ≡ 32
-    pub rests : length s.rest ≡ 32
+    pub jobs : length s.job ≡ 32
     pub keys : length s.key ≡ 32
-    pub segment : (i : ℕ) → i < J.jobs → get_or s.segment i 0 ≡ r.progress.segment i
+    pub segment : (i : ℕ) → i < J.jobs → segment_in s i ≡ r.progress.segment i
     -- of an unfinished job that does not run, something is left
-    pub rest : (i : ℕ) → i < J.jobs → i ≢ r.running → r.progress.segment i < J.segments i → get_or s.rest i 0 + r.progress.had i ≡ time i (r.progress.segment i)
+    pub rest : (i : ℕ) → i < J.jobs → i ≢ r.running → r.progress.segment i < J.segments i → rest_in s i + r.progress.had i ≡ time i (r.progress.segment i)
     pub some : (i : ℕ) → i < J.jobs → i ≢ r.running → r.progress.segment i < J.segments i → r.progress.had i < time i (r.progress.segment i)
     pub key : (i : ℕ) → i < s.released → get_or s.key i 0 ≡ key_of (weight J (control_of r.progress) i) i
     pub no_key : (i : ℕ) → s.released ≤ i → get_or s.key i 0 ≡ 0
@@ -74,7 +74,7 @@ module _ (J : JobSet) (time : ℕ → ℕ → ℕ) where
     pub on : r.running < J.jobs → (r.running < s.released) × (r.progress.segment r.running < J.segments r.running) × (1 ≤ r.progress.had r.running)
     pub mid : r.running < J.jobs → r.due ≡ cutting
 
-module _ (w times : List ℕ) (L : Loaded w) (time : ℕ → ℕ → ℕ) (positive : Positive (set_of w) time)
+module _ (w : Jobs) (times : List ℕ) (L : Loaded w) (time : ℕ → ℕ → ℕ) (positive : Positive (set_of w) time)
     (same : (i k : ℕ) → i < (set_of w).jobs → time_at w times i k ≡ time i k) where
   abbrev J : JobSet
   J = set_of w
@@ -83,8 +83,7 @@ module _ (w times : List ℕ) (L : Loaded w) (time : ℕ → ℕ → ℕ) (posit
 
   pub shows_fresh : (s : State) → Fresh w times s → Shows J time s (fresh J)
   shows_fresh s F = record {
-    segments = F.segments;
-    rests = F.rests;
+    jobs = F.jobs;
     keys = F.keys;
     segment = λ i h. F.segment i;
     rest = λ i h n l. omega (arith, F.rest i (omega (arith, L.few_jobs)), same i 0 h);
@@ -114,13 +113,13 @@ module _ (w times : List ℕ) (L : Loaded w) (time : ℕ → ℕ → ℕ) (posit
     next = next_segment p j
 
     abbrev k : ℕ
-    k = get_or s.segment s.running 0 + 1
+    k = segment_in s s.running + 1
 
     small : j < 32
     small = omega (arith, L.few_jobs)
 
     next_k : k ≡ p.segment j + 1
-    next_k = ap (λ (i : ℕ). get_or s.segment i 0 + 1) S.running ∙ omega (arith, S.segment j h)
+    next_k = ap (λ (i : ℕ). segment_in s i + 1) S.running ∙ omega (arith, S.segment j h)
 
     -- elsewhere nothing changes
     other : (i : ℕ) → i ≢ j → (next.segment i ≡ p.segment i) × (next.had i ≡ p.had i)
@@ -148,31 +147,43 @@ module _ (w times : List ℕ) (L : Loaded w) (time : ℕ → ℕ → ℕ) (posit
     at_j : (P : ℕ → Type 0) → P j → ((i : ℕ) → i ≢ j → P i) → (i : ℕ) → P i
     at_j P a b i = elim (ℕ_discrete i j) [ yes e ↦ rw e a | no e ↦ b i e ]
 
-    stored : (l : List ℕ) (v i : ℕ) → i ≢ j → get_or (set l s.running v) i 0 ≡ get_or l i 0
-    stored l v i n = rw S.running (get_or-set_other l j i v 0 n)
+    stored : {X : Type 0} (l : List X) (v z : X) (i : ℕ) → i ≢ j → get_or (set l s.running v) i z ≡ get_or l i z
+    stored l v z i n = rw S.running (get_or-set_other l j i v z n)
 
-    stored_here : (l : List ℕ) (v : ℕ) → length l ≡ 32 → get_or (set l s.running v) j 0 ≡ v
-    stored_here l v e = rw S.running (get_or-set_same l j v 0 (omega (arith, small)))
+    stored_here : {X : Type 0} (l : List X) (v z : X) → length l ≡ 32 → get_or (set l s.running v) j z ≡ v
+    stored_here l v z e = rw S.running (get_or-set_same l j v z (omega (arith, small)))
+
+    -- where the job stands
+    abbrev v : Standing
+    v = record { segment = k; rest = time_at w times s.running k }
+
+    abbrev after : ℕ → Standing
+    after i = get_or (set s.job s.running v) i no_standing
+
+    after_here : after j ≡ v
+    after_here = stored_here s.job v no_standing S.jobs
+
+    after_other : (i : ℕ) → i ≢ j → after i ≡ get_or s.job i no_standing
+    after_other i n = stored s.job v no_standing i n
 
     pub shows_end : Shows J time (end_step w times tick s) (after_end J tick r)
     unfolding end_step
     shows_end = record {
-      segments = simp length-set S.segments;
-      rests = simp length-set S.rests;
+      jobs = simp length-set S.jobs;
       keys = simp length-set S.keys;
-      segment = at_j (λ i. i < J.jobs → get_or (set s.segment s.running k) i 0 ≡ next.segment i)
-          (λ q. stored_here s.segment k S.segments ∙ next_k ∙ sym here_segment)
-          (λ i n q. stored s.segment k i n ∙ S.segment i q ∙ sym (other i n).0);
-      rest = λ i q n. at_j (λ i. i < J.jobs → next.segment i < J.segments i → get_or (set s.rest s.running (time_at w times s.running k)) i 0 + next.had i ≡ time i (next.segment i))
-          (λ q l. omega (arith, stored_here s.rest (time_at w times s.running k) S.rests, end_time, here_had, ap (time j) here_segment))
-          (λ i n q l. omega (arith, stored s.rest (time_at w times s.running k) i n, (other i n).1, ap (time i) (other i n).0, S.rest i q n (omega (arith, (other i n).0)))) i q;
+      segment = at_j (λ i. i < J.jobs → (after i).segment ≡ next.segment i)
+          (λ q. ap (λ (x : Standing). x.segment) after_here ∙ next_k ∙ sym here_segment)
+          (λ i n q. ap (λ (x : Standing). x.segment) (after_other i n) ∙ S.segment i q ∙ sym (other i n).0);
+      rest = λ i q n. at_j (λ i. i < J.jobs → next.segment i < J.segments i → (after i).rest + next.had i ≡ time i (next.segment i))
+          (λ q l. omega (arith, ap (λ (x : Standing). x.rest) after_here, end_time, here_had, ap (time j) here_segment))
+          (λ i n q l. omega (arith, ap (λ (x : Standing). x.rest) (after_other i n), (other i n).1, ap (time i) (other i n).0, S.rest i q n (omega (arith, (other i n).0)))) i q;
       some = λ i q n. at_j (λ i. i < J.jobs → next.segment i < J.segments i → next.had i < time i (next.segment i))
           (λ q l. omega (arith, here_had, positive j (next.segment j) q l))
           (λ i n q l. omega (arith, (other i n).1, ap (time i) (other i n).0, S.some i q n (omega (arith, (other i n).0)))) i q;
       key = at_j (λ i. i < s.released → get_or (set s.key s.running (key_of (weight_at J s.running k true) s.running)) i 0 ≡ key_of (weight J (control_of next) i) i)
-          (λ q. stored_here s.key (key_of (weight_at J s.running k true) s.running) S.keys ∙ end_key)
-          (λ i n q. stored s.key (key_of (weight_at J s.running k true) s.running) i n ∙ S.key i q ∙ ap (λ (v : ℕ). key_of v i) (weight_same J p next i (sym (other i n).0) (sym (other i n).1)));
-      no_key = λ i q. stored s.key (key_of (weight_at J s.running k true) s.running) i (omega (arith, (S.on h).0)) ∙ S.no_key i q;
+          (λ q. stored_here s.key (key_of (weight_at J s.running k true) s.running) 0 S.keys ∙ end_key)
+          (λ i n q. stored s.key (key_of (weight_at J s.running k true) s.running) 0 i n ∙ S.key i q ∙ ap (λ (v : ℕ). key_of v i) (weight_same J p next i (sym (other i n).0) (sym (other i n).1)));
+      no_key = λ i q. stored s.key (key_of (weight_at J s.running k true) s.running) 0 i (omega (arith, (S.on h).0)) ∙ S.no_key i q;
       released = S.released;
       idle = λ i q l. let n : i ≢ j = omega (arith, (S.on h).0) in ((other i n).0 ∙ (S.idle i q l).0, (other i n).1 ∙ (S.idle i q l).1);
       running = refl;

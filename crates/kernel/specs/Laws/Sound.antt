@@ -1,4 +1,6 @@
 -- What holds right after every dispatch, and that it is kept from one switch to the next.
+use native.Mathlib.Bridge.{le_prop}
+use mathlib.Core.Logic.{∥∥₁_elim}
 use Rattle.std.proofs.Math.Path.{◌≡◌, refl, ap}
 use Rattle.std.proofs.Common.{sym, ◌∙◌, arith}
 use Rattle.std.specs.Prelude.{◌≢◌, Bool, true, false, cond}
@@ -213,7 +215,7 @@ module _ (J : JobSet) (L : Lawful J) (S : State) (p : Point) (O : SoundAt J S p)
 module _ (J : JobSet) (L : Lawful J) where
   pub first_inside : after J unbegun 0 < J.jobs
   unfolding unbegun
-  first_inside = (disp _ _ _ (released J L unbegun) 0).some L.worker L.worker_inside (seg_alive J unbegun L.worker L.worker_some)
+  first_inside = ∥∥₁_elim L.worker le_prop (λ w. (disp _ _ _ (released J L unbegun) 0).some w.job w.inside (seg_alive J unbegun w.job w.some))
 
   pub sound_first : (time : ℕ → ℕ → ℕ) → Within J time → SoundAt J (first_state J) (first_out J time).point
   unfolding out_at dispatch unbegun

@@ -1,4 +1,6 @@
 -- A run that ends in its frame: its last switch names no job, and every switch before that names one.
+use mathlib.Core.Logic.{∥∥₁_elim}
+use Rattle.std.proofs.Math.Bool.{Bool-set}
 use Prim.Native.Nat.{ℕ, zero, suc, ◌<◌, ◌≤◌}
 use native.Mathlib.Omega.{arith}
 use Rattle.std.specs.Prelude.{◌≡◌, false, ◌&&◌, ltb, eqb}
@@ -87,4 +89,4 @@ module _ (J : JobSet) where
         (λ o. switch_leads tick e _ (ends_ended n (suc tick) (run_tick J tick e) (tick_over tick e ∙ o) (rw o at t)))
 
   pub run_ended : Lawful J → (time : ℕ → ℕ → ℕ) → is_in_frame J time ≡ true → Ended J.jobs (order_of J time)
-  run_ended L time = ends_ended time _ 0 (fresh J) (unfinished _ J.jobs L.worker L.worker_inside L.worker_some)
+  run_ended L time = ends_ended time _ 0 (fresh J) (∥∥₁_elim L.worker (Bool-set _ _) (λ w. unfinished _ J.jobs w.job w.inside w.some))

@@ -1,11 +1,11 @@
 -- The first dispatch, of all runs at once.
-use Rattle.std.specs.Prelude.{◌≡◌, refl, ◌+◌, ◌*◌, ◌≤◌, ◌<◌}
+use Rattle.kernel.specs.Laws.Sound.{first_inside}
+use Rattle.std.specs.Prelude.{◌≡◌, refl, ◌+◌, ◌≤◌, ◌<◌}
 use Rattle.std.proofs.Common.{arith}
 use Rattle.std.proofs.lemmas.Bool.{false≢true}
 use Rattle.kernel.specs.Rules.{JobSet, FIRST}
-use Rattle.kernel.specs.Laws.Tests.{if-lt}
 use Rattle.kernel.specs.Laws.Pick.{disp}
-use Rattle.kernel.specs.Laws.Control.{Lawful, weight, after, released}
+use Rattle.kernel.specs.Laws.Control.{Lawful, after, released}
 use Rattle.kernel.specs.Jobs.{sum}
 use Rattle.kernel.specs.Laws.Fall.{potential, potential_start, fall_cut, unbegun}
 use Rattle.kernel.specs.Laws.Step.{dispatch, first_state}
@@ -38,10 +38,7 @@ module _ (J : JobSet) (L : Lawful J) where
   pub first_less : potential J (first_state J).control < sum J.segments J.jobs + J.jobs
   unfolding dispatch
   first_less =
-      let some : 0 < weight J unbegun L.worker
-      = unfold weight unbegun in rw (if-lt 0 (J.segments L.worker) (2 * J.base L.worker + 1) 0 L.worker_some) (omega arith) in
-      let live : after J unbegun 0 < J.jobs = (disp _ _ _ (released J L unbegun) 0).some L.worker L.worker_inside some in
-      omega (arith, fall_cut J unbegun (after J unbegun 0) live (unfold unbegun in refl), potential_start J)
+      omega (arith, fall_cut J unbegun (after J unbegun 0) (first_inside J L) (unfold unbegun in refl), potential_start J)
 
   pub first_enough : potential J (first_state J).control ≤ enough J
   first_enough = omega (arith, first_less)
