@@ -1,3 +1,3 @@
 pub mod Locks
-pub mod Placed
+pub mod Rows
 pub mod Laid

@@ -1,57 +1,59 @@
--- What the functions that lay a table out as words promise.
-use Rattle.std.specs.Prelude.{ℕ, zero, suc, ◌+◌, ◌*◌, ◌<◌, ◌≡◌, cond, List, [], ◌∷◌, get_or, replicate}
-use Rattle.std.proofs.lemmas.List.Edits.{sets}
+-- What is held of a table, and what the functions that lay it out promise.
+use Rattle.std.specs.Prelude.{ℕ, ◌<◌, ◌≡◌, cond, List, get_or, map}
+use Rattle.std.proofs.Common.{sym, ◌∙◌}
+use Rattle.std.specs.List.{range_with_len, flat_map}
+use Rattle.table.specs.Limits.{most_jobs, most_segments}
+use Rattle.table.specs.Table.{the_job, the_segment, padded}
 use Rattle.table.specs.declared.Table.{Table}
 use Rattle.kernel.specs.Jobs.{largest, holds, locks, base_of, count_of, number_of, ceiling, dispatched_priority, jobs_of}
-use Rattle.kernel.specs.Words.{set_of, Loaded}
+use Rattle.kernel.specs.Held.{no_job, no_segment, set_of, Loaded}
+use Rattle.kernel.specs.declared.jobs.Job.{Job}
+use Rattle.kernel.specs.declared.jobs.Segment.{Segment}
+use Rattle.kernel.specs.declared.jobs.Jobs.{Jobs}
 
 -- ---- ceilings
-
--- the base of a job if a segment of it holds the lock: its segments are `count` from the number `first` on
-unfoldable pub user_base_in : List ℕ → (first count base lock : ℕ) → ℕ
-user_base_in held first count base lock = largest (λ k. cond (holds (get_or held (first + k) 0) lock) base 0) count
 
 -- a row of ceilings is that of the table's locks
 abbrev pub Ceilings : Table → List ℕ → Type 0
 Ceilings t row = (lock : ℕ) → lock < locks → get_or row lock 0 ≡ ceiling t lock
 
--- the ceiling of a lock, from a row of them, if it is held
-abbrev pub ceiling_if_held : List ℕ → (held lock : ℕ) → ℕ
-ceiling_if_held row held lock = cond (holds held lock) (get_or row lock 0) 0
-
 -- the largest ceiling, from a row of them, of the locks held
 unfoldable pub highest : List ℕ → (held : ℕ) → ℕ
-highest row held = largest (ceiling_if_held row held) locks
+highest row held = largest (λ lock. cond (holds held lock) (get_or row lock 0) 0) locks
 
--- ---- words
+-- ---- the job set
 
--- the words of a frame and a number of jobs, with no job yet
-unfoldable pub heading : (frame jobs : ℕ) → List ℕ
-heading frame jobs = frame ∷ jobs ∷ replicate 320 0
+module _ (t : Table) where
+  -- job i of the table, and segment k of it
+  abbrev pub held_job : ℕ → Job
+  held_job i = record { release = (the_job t i).release; base = base_of t i; first = (the_job t i).first; segments = count_of t i }
 
--- the three words of a segment
-abbrev pub segment_words : Table → (i k : ℕ) → List ℕ
-segment_words t i k = get_or t.shortest (number_of t i k) 0 ∷ get_or t.longest (number_of t i k) 0 ∷ dispatched_priority t i k ∷ []
+  abbrev pub held_segment : (i k : ℕ) → Segment
+  held_segment i k = let s = the_segment t (number_of t i k) in record { shortest = s.shortest; longest = s.longest; priority = dispatched_priority t i k }
 
--- words with those of the first k segments of job i put in
-unfoldable pub with_segments : Table → (i k : ℕ) → List ℕ → List ℕ
-with_segments t i zero w = w
-with_segments t i (suc k) w = sets (with_segments t i k w) (130 + 3 * number_of t i k) (segment_words t i k)
+  -- the segments of job i
+  unfoldable pub segments_of : ℕ → List Segment
+  segments_of i = map (held_segment i) (range_with_len 0 (count_of t i))
 
--- the four words of a job
-abbrev pub job_words : Table → ℕ → List ℕ
-job_words t i = get_or t.release i 0 ∷ base_of t i ∷ get_or t.first i 0 ∷ count_of t i ∷ []
+  -- the first n jobs, the segments of each in turn, and none after them
+  unfoldable pub held_first : ℕ → Jobs
+  held_first n = record {
+    frame = t.frame;
+    count = t.jobs;
+    job = padded most_jobs no_job (map held_job (range_with_len 0 n));
+    segment = padded most_segments no_segment (flat_map segments_of (range_with_len 0 n));
+  }
 
--- the words of the first n jobs and their segments
-unfoldable pub with_jobs : Table → ℕ → List ℕ
-with_jobs t zero = heading t.frame t.jobs
-with_jobs t (suc n) = with_segments t n (count_of t n) (sets (with_jobs t n) (2 + 4 * n) (job_words t n))
+  -- what is held of a table
+  abbrev pub held_of : Jobs
+  held_of = held_first t.jobs
 
-abbrev pub words_of : Table → List ℕ
-words_of t = with_jobs t t.jobs
-
--- the words of an accepted table: they are its job set, and keep what that of a table keeps
-pub record Laid (t : Table) (w : List ℕ) : Type 0 where
-  pub words : w ≡ words_of t
+-- the job set of an accepted table: it is held as such, and keeps what that of a table keeps
+pub record Laid (t : Table) (w : Jobs) : Type 0 where
+  pub held : w ≡ held_of t
   pub set : set_of w ≡ jobs_of t
   pub loaded : Loaded w
+
+-- what is laid of a table is one job set
+pub laid_once : (t : Table) (w v : Jobs) → Laid t w → Laid t v → w ≡ v
+laid_once t w v A B = A.held ∙ sym B.held

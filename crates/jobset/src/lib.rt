@@ -1,89 +1,55 @@
-// The job set of a table, laid out as the words of the kernel's specs/Words.antt.
+// The job set of a table, as the kernel's code holds it.
 #![tactic(auto)]
 
-ghost use Rattle.std.specs.Prelude.{◌≡◌, [], ◌∷◌, ◌+◌, ◌*◌, ◌<◌};
-ghost use Rattle.std.proofs.lemmas.List.Edits.{sets};
+ghost use Rattle.std.specs.Prelude.{◌≡◌, ◌+◌, ◌<◌};
 ghost use Rattle.table.specs.Sound.{Sound};
-ghost use Rattle.kernel.specs.Jobs.{count_of};
-ghost use Rattle.jobset.specs.Load.{Ceilings, heading, with_segments, Laid};
+ghost use Rattle.jobset.specs.Load.{Ceilings, held_first, Laid};
 
 mod ceilings;
 
+use ceilings::LOCKS;
+use kernel::accepted::Accepted;
+use kernel::jobs::{Job, Jobs, Segment};
 use table::Table;
 
-// The frame and the number of jobs, and no job yet.
-fn heading(frame: u32, jobs: u32) -> [u32; 322]
-    ensures { result ≡ heading frame jobs }
+// Job i and its segments, which follow those of the jobs before it.
+#[tactic(auto, using(crate::specs::Laws::Accepted::segments_fit))]
+fn put_job(jobs: &mut Jobs, table: &Table, ceilings: &[u32; LOCKS], i: usize)
+    requires { Sound table.now × (i < table.now.jobs) × Ceilings table.now ceilings.now × (jobs.old ≡ held_first table.now i) }
+    ensures { jobs.new ≡ held_first table.now (i + 1) }
 {
-    let mut words = [0; 322];
-    words[0] = frame;
-    words[1] = jobs;
-    words
-}
-
-fn put_job(words: &mut [u32; 322], i: usize, release: u32, base: u8, first: u32, count: u8)
-    requires { i < 32 }
-    ensures { words.new ≡ sets words.old (2 + 4 * i) (release ∷ base ∷ first ∷ count ∷ []) }
-{
-    let at = 2 + 4 * i;
-    words[at] = release;
-    words[at + 1] = base as u32;
-    words[at + 2] = first;
-    words[at + 3] = count as u32;
-}
-
-fn put_segment(words: &mut [u32; 322], number: usize, shortest: u32, longest: u32, priority: u32)
-    requires { number < 64 }
-    ensures { words.new ≡ sets words.old (130 + 3 * number) (shortest ∷ longest ∷ priority ∷ []) }
-{
-    let at = 130 + 3 * number;
-    words[at] = shortest;
-    words[at + 1] = longest;
-    words[at + 2] = priority;
-}
-
-fn put_segments(words: &mut [u32; 322], table: Table, ceilings: &[u32; 16], i: usize)
-    requires { Sound table × (i < table.jobs) × Ceilings table ceilings.now }
-    ensures { words.new ≡ with_segments table i (count_of table i) words.old }
-{
-    let first = table.first[i];
-    let count = table.count[i];
-    let base = table.base[i];
-    let mut k: u8 = 0;
-    while k < count {
-        let number = first + k as usize;
-        let priority = ceilings::priority(ceilings, base, table.held[number]);
-        put_segment(
-            words,
-            number,
-            table.shortest[number],
-            table.longest[number],
-            priority,
-        );
-        k += 1;
+    let job = table.job[i];
+    jobs.job[i] = Job {
+        release: job.release,
+        base: u32::from(job.base),
+        first: job.first as u32,
+        segments: u32::from(job.count),
+    };
+    for number in job.first..job.first + usize::from(job.count) {
+        let segment = table.segment[number];
+        jobs.segment[number] = Segment {
+            shortest: segment.shortest,
+            longest: segment.longest,
+            priority: ceilings::priority(ceilings, job.base, segment.held),
+        };
     }
 }
 
-// The job set of an accepted table, as words.
-pub fn load(table: Table) -> [u32; 322]
-    requires { Sound table }
-    ensures { Laid table result }
+// The job set of an accepted table.
+#[tactic(auto, unfolding(crate::specs::Load::held_first, table::specs::Table::padded))]
+pub fn load(table: &Table) -> Accepted
+    requires { Sound table.now }
+    ensures { Laid table.now result.jobs }
 {
     let ceilings = ceilings::ceilings(table);
-    let jobs = table.jobs;
-    let mut words = heading(table.frame, jobs as u32);
-    let mut i: usize = 0;
-    while i < jobs {
-        put_job(
-            &mut words,
-            i,
-            table.release[i],
-            table.base[i],
-            table.first[i] as u32,
-            table.count[i],
-        );
-        put_segments(&mut words, table, &ceilings, i);
-        i += 1;
+    let mut jobs = Jobs {
+        frame: table.frame,
+        count: table.jobs,
+        job: [Job::default(); Table::JOBS],
+        segment: [Segment::default(); Table::SEGMENTS],
+    };
+    for i in 0..table.jobs {
+        put_job(&mut jobs, table, &ceilings, i);
     }
-    words
+    Accepted { jobs }
 }

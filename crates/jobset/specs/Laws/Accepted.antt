@@ -1,16 +1,16 @@
 -- What an accepted table keeps, of its job set: the laws of the kernel, and how large its numbers are.
 use Prim.Native.Nat.{ℕ, zero, suc, ◌+◌, ◌≤◌, ◌<◌}
 use native.Mathlib.Omega.{arith}
-use Rattle.std.specs.Prelude.{◌≡◌, refl, get_or}
+use Rattle.std.specs.Prelude.{◌≡◌, refl}
 use Rattle.std.proofs.Common.{sym, ◌∙◌}
 use Rattle.std.proofs.Math.Path.{ap}
 use Rattle.table.specs.declared.Table.{Table}
 use Rattle.table.specs.Sound.{Sound}
+use Rattle.table.specs.Table.{the_job, the_segment}
 use Rattle.kernel.specs.Rules.{JobSet}
-use Rattle.kernel.specs.Jobs.{holds, locks, base_of, count_of, number_of, held_by, user_base, ceiling, ceilings, dispatched_priority, clipped, jobs_of}
+use Rattle.kernel.specs.Jobs.{sum, holds, locks, base_of, count_of, number_of, held_by, user_base, ceiling, ceilings, dispatched_priority, clipped, jobs_of}
 use Rattle.kernel.specs.Laws.Tests.{split}
 use Rattle.kernel.specs.Laws.Control.{Lawful}
-use Rattle.kernel.specs.Jobs.{sum}
 use Rattle.kernel.specs.Laws.Sums.{sum_rises, sum_same}
 use Rattle.kernel.specs.Laws.Largest.{largest_le, if_most}
 use Rattle.jobset.specs.Laws.Clipped.{if_no_job, Agree, clipped_agrees}
@@ -20,12 +20,12 @@ abbrev pub rows_of : Table → JobSet
 rows_of t = record {
   frame = t.frame;
   jobs = t.jobs;
-  release = λ i. get_or t.release i 0;
+  release = λ i. (the_job t i).release;
   base = base_of t;
   segments = count_of t;
   priority = dispatched_priority t;
-  shortest = λ i k. get_or t.shortest (number_of t i k) 0;
-  longest = λ i k. get_or t.longest (number_of t i k) 0;
+  shortest = λ i k. (the_segment t (number_of t i k)).shortest;
+  longest = λ i k. (the_segment t (number_of t i k)).longest;
 }
 
 pub job_set_agrees : (t : Table) → Agree (jobs_of t) (rows_of t)
@@ -35,7 +35,7 @@ job_set_agrees t = clipped_agrees (rows_of t)
 module _ (t : Table) (S : Sound t) where
   -- ---- segments in table order
 
-  pub first_is : (i : ℕ) → i < t.jobs → get_or t.first i 0 ≡ sum (count_of t) i
+  pub first_is : (i : ℕ) → i < t.jobs → (the_job t i).first ≡ sum (count_of t) i
   unfolding sum
   first_is zero h = S.first
   first_is (suc i) h = S.next i h ∙ ap (λ (n : ℕ). n + count_of t i) (first_is i (omega arith))
@@ -45,22 +45,20 @@ module _ (t : Table) (S : Sound t) where
   all_segments zero e = absurd (omega (arith, S.jobs_some))
   all_segments (suc j) e = omega (arith, S.last j (sym e), first_is j (omega arith))
 
-  -- the segments of a job end before those of a later one begin
-  pub earlier_number : (i n k : ℕ) → i < n → n < t.jobs → k < count_of t i → number_of t i k < get_or t.first n 0
-  unfolding sum
-  earlier_number i n k h q z =
-      omega (arith, first_is i (omega arith), first_is n q, sum_rises (count_of t) (suc i) n h)
-
-  pub last_number : (i : ℕ) → i < t.jobs → get_or t.first i 0 + count_of t i ≤ t.segments
+  pub last_number : (i : ℕ) → i < t.jobs → (the_job t i).first + count_of t i ≤ t.segments
   unfolding sum
   last_number i h = omega (arith, first_is i h, sum_rises (count_of t) (suc i) t.jobs h, all_segments t.jobs refl)
+
+  -- within the row
+  pub segments_fit : (i : ℕ) → i < t.jobs → (the_job t i).first + count_of t i ≤ 64
+  segments_fit i h = omega (arith, last_number i h, S.segments_most)
 
   number_inside : (i k : ℕ) → i < t.jobs → k < count_of t i → number_of t i k < t.segments
   number_inside i k h q = omega (arith, last_number i h)
 
   -- ---- releases
 
-  release_rises : (i j : ℕ) → i ≤ j → j < t.jobs → get_or t.release i 0 ≤ get_or t.release j 0
+  release_rises : (i j : ℕ) → i ≤ j → j < t.jobs → (the_job t i).release ≤ (the_job t j).release
   release_rises i zero h q = let e : i ≡ 0 = omega arith in rw e (omega arith)
   release_rises i (suc j) h q = split i (suc j)
       (λ (z : i < suc j). omega (arith, release_rises i j (omega arith) (omega arith), S.order j q))
@@ -110,13 +108,11 @@ module _ (t : Table) (S : Sound t) where
             omega (arith, A.shortest i k h z, A.longest i k h z, (S.segment (number_of t i k) (number_inside i k h z)).order);
         none_released = if_no_job t.jobs (rows_of t).release t.jobs (omega arith);
         none_segments = if_no_job t.jobs (count_of t) t.jobs (omega arith);
-        worker = 0;
-        worker_inside = S.jobs_some;
-        worker_some = omega (arith, A.segments 0 S.jobs_some, (S.job 0 S.jobs_some).count_some);
+        worker = ∣ record { job = 0; inside = S.jobs_some; some = omega (arith, A.segments 0 S.jobs_some, (S.job 0 S.jobs_some).count_some) } ∣₁;
       }
 
   -- the number of a job's first segment: how many come before it
-  pub accepted_first : (i : ℕ) → i < t.jobs → get_or t.first i 0 ≡ sum (jobs_of t).segments i
+  pub accepted_first : (i : ℕ) → i < t.jobs → (the_job t i).first ≡ sum (jobs_of t).segments i
   accepted_first i h = first_is i h ∙ sum_same (count_of t) (jobs_of t).segments i (λ j q. sym ((job_set_agrees t).segments j (omega arith)))
 
   pub accepted_segments : sum (jobs_of t).segments t.jobs ≤ 64
