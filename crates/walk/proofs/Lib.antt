@@ -1,4 +1,4 @@
-pub mod Rows
+pub mod Keeping
 pub mod Hanging
 pub mod Growing
 pub mod Turn

@@ -5,7 +5,6 @@ pub mod Moves
 pub mod Ticks
 pub mod Twigs
 pub mod Unfinished
-pub mod Counting
 pub mod Forests
 pub mod Writing
 pub mod Ends

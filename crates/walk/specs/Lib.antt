@@ -2,7 +2,7 @@ pub mod State
 pub mod Choice
 pub mod Switches
 pub mod Nodes
-pub mod Count
+pub mod Counts
 pub mod Descent
 pub mod Tree
 pub mod Laws

@@ -1,17 +1,20 @@
--- Where a walk stands, as the code holds it: four words a job from word 4i on (its key, its present segment, what is left of that at least and at most).
-use Rattle.std.specs.Prelude.{ℕ, ◌+◌, ◌*◌, ◌≤◌, ◌<◌, ◌≡◌, true, false, List, [], ◌∷◌, length, get_or}
-use Rattle.std.proofs.lemmas.List.Edits.{sets}
+-- Where a walk stands, as the code holds it: how each of 32 jobs does.
+use Rattle.std.specs.Prelude.{ℕ, ◌≤◌, ◌<◌, ◌≡◌, true, false, List, length, get_or}
 use Rattle.kernel.specs.Rules.{JobSet}
 use Rattle.kernel.specs.Code.{weight_at}
 use Rattle.kernel.specs.Laws.Control.{Control, weight}
 use Rattle.kernel.specs.Laws.Key.{key_of}
 use Rattle.walk.specs.declared.state.Standing.{Standing}
 
-abbrev pub standing_at : List ℕ → ℕ → Standing
-standing_at s i = record { key = get_or s (4 * i) 0; segment = get_or s (4 * i + 1) 0; least = get_or s (4 * i + 2) 0; most = get_or s (4 * i + 3) 0 }
+-- where there is no such job
+abbrev pub no_standing : Standing
+no_standing = record { key = 0; segment = 0; least = 0; most = 0 }
 
-unfoldable pub put_at : List ℕ → ℕ → Standing → List ℕ
-put_at s i x = sets s (4 * i) (x.key ∷ x.segment ∷ x.least ∷ x.most ∷ [])
+abbrev pub standing_at : List Standing → ℕ → Standing
+standing_at s i = get_or s i no_standing
+
+abbrev pub key_at : List Standing → ℕ → ℕ
+key_at s i = (standing_at s i).key
 
 -- job i, begun, at the start of its segment k
 abbrev pub begun_at : JobSet → (i k : ℕ) → Standing
@@ -29,24 +32,24 @@ resumed_as J i x = record { key = key_of (weight_at J i x.segment true) i; segme
 abbrev pub cut_as : Standing → (least most : ℕ) → Standing
 cut_as x least most = record { key = x.key; segment = x.segment; least = least; most = most }
 
--- the words in which no job has begun
-pub record Unbegun (J : JobSet) (s : List ℕ) : Type 0 where
-  pub size : length s ≡ 128
+-- no job has begun
+pub record Unbegun (J : JobSet) (s : List Standing) : Type 0 where
+  pub size : length s ≡ 32
   pub jobs : (i : ℕ) → i < 32 → standing_at s i ≡ new_at J i
 
--- ---- what the words stand for
+-- ---- what that stands for
 
 -- the keys are those of a control's weights
-abbrev pub Keyed : JobSet → Control → List ℕ → Type 0
-Keyed J κ s = (i : ℕ) → i < J.jobs → get_or s (4 * i) 0 ≡ key_of (weight J κ i) i
+abbrev pub Keyed : JobSet → Control → List Standing → Type 0
+Keyed J κ s = (i : ℕ) → i < J.jobs → key_at s i ≡ key_of (weight J κ i) i
 
--- a control, and from what to what is left of each segment: the words hold it of the present segments, and later ones are untouched
-pub record Stands (J : JobSet) (s : List ℕ) (κ : Control) (least most : ℕ → ℕ → ℕ) : Type 0 where
-  pub size : length s ≡ 128
+-- a control, and from what to what is left of each segment: it is held of the present segments, and later ones are untouched
+pub record Stands (J : JobSet) (s : List Standing) (κ : Control) (least most : ℕ → ℕ → ℕ) : Type 0 where
+  pub size : length s ≡ 32
   pub keyed : Keyed J κ s
-  pub segment : (i : ℕ) → i < J.jobs → get_or s (4 * i + 1) 0 ≡ κ.segment i
-  pub low : (i : ℕ) → i < J.jobs → get_or s (4 * i + 2) 0 ≡ least i (κ.segment i)
-  pub high : (i : ℕ) → i < J.jobs → get_or s (4 * i + 3) 0 ≡ most i (κ.segment i)
+  pub segment : (i : ℕ) → i < J.jobs → (standing_at s i).segment ≡ κ.segment i
+  pub low : (i : ℕ) → i < J.jobs → (standing_at s i).least ≡ least i (κ.segment i)
+  pub high : (i : ℕ) → i < J.jobs → (standing_at s i).most ≡ most i (κ.segment i)
   pub low_later : (i k : ℕ) → i < J.jobs → κ.segment i < k → least i k ≡ J.shortest i k
   pub high_later : (i k : ℕ) → i < J.jobs → κ.segment i < k → most i k ≡ J.longest i k
-  pub small : (i : ℕ) → i < J.jobs → get_or s (4 * i + 3) 0 ≤ 1000000
+  pub small : (i : ℕ) → i < J.jobs → (standing_at s i).most ≤ 1000000

@@ -1,31 +1,27 @@
 -- What the walk gives: the tree of the theory, which is proved to be the tree of all orders.
-use Rattle.std.specs.Prelude.{ℕ, ◌/◌, ◌≤◌, ◌<◌, min, ◌≡◌, List, length}
+use Rattle.kernel.specs.declared.jobs.Jobs.{Jobs}
+use Rattle.std.specs.Prelude.{ℕ, ◌/◌, ◌≤◌, ◌<◌, min, ◌≡◌, Option, Some, None, List, length}
 use Rattle.std.proofs.lemmas.List.Edits.{sets}
 use Rattle.kernel.specs.Rules.{JobSet}
 use Rattle.kernel.specs.Log.{nothing}
-use Rattle.kernel.specs.Words.{set_of, Loaded}
+use Rattle.kernel.specs.Held.{set_of}
 use Rattle.orders.specs.Orders.{size}
 use Rattle.orders.specs.Nodes.{tree_words, orders}
 use Rattle.orders.specs.Laws.Walk.{the_tree}
 use Rattle.walk.specs.Descent.{Wrote}
-use Rattle.walk.specs.declared.Found.{Found}
-use Rattle.walk.specs.declared.Found.TheVariants.{Whole, TooLarge}
-use Rattle.walk.specs.Count.{Count}
+use Rattle.walk.specs.Counts.{no_counts}
+use Rattle.walk.specs.declared.counts.Counts.{Counts}
 
 -- how many nodes so many words hold, at most 1,000,000
 abbrev pub room_of : ℕ → ℕ
 room_of words = min (words / 8) 1000000
 
-pub record PassAsk (w : List ℕ) (cap : ℕ) : Type 0 where
-  pub loaded : Loaded w
-  pub most : cap ≤ 1000001
-
 -- the whole tree was walked
-abbrev pub Passed : (w : List ℕ) (cap : ℕ) (before after : List ℕ) → Count → Type 0
-Passed w cap before after c = Wrote (set_of w) (the_tree (set_of w)) nothing cap before (record { nodes = 0; orders = 0 }) after c
+abbrev pub Passed : (w : Jobs) (cap : ℕ) (before after : List ℕ) → Counts → Type 0
+Passed w cap before after c = Wrote (set_of w) (the_tree (set_of w)) nothing cap before no_counts after c
 
 -- the tree stands at the start of the words, and nothing after it is touched; or nothing is where it has more nodes than there is room for
-pub record Walked (J : JobSet) (before after : List ℕ) (r : Found) : Type 0 where
+pub record Walked (J : JobSet) (before after : List ℕ) (r : Option Counts) : Type 0 where
   pub whole : size (the_tree J) ≤ room_of (length before)
-      → (r ≡ Whole (size (the_tree J)) (orders (the_tree J))) × (after ≡ sets before 0 (tree_words J (the_tree J)))
-  pub large : room_of (length before) < size (the_tree J) → (r ≡ TooLarge) × (after ≡ before)
+      → (r ≡ Some (record { nodes = size (the_tree J); orders = orders (the_tree J) })) × (after ≡ sets before 0 (tree_words J (the_tree J)))
+  pub large : room_of (length before) < size (the_tree J) → (r ≡ None) × (after ≡ before)

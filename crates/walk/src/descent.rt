@@ -1,169 +1,113 @@
 // Recursive descent from each switch to whatever may follow it. The falling number is `depth`: how many switches may still follow.
-ghost use Rattle.walk.specs.Count.{count_of};
-ghost use Rattle.walk.specs.Descent.{HangAsk, Hung, GrowAsk, Grown, LeaveAsk, Left, CutAsk, CutOff};
+ghost use Rattle.walk.specs.Counts.{Room};
 
+use crate::choice::Known;
+use crate::counts::Counts;
+use crate::state::Standing;
 use crate::switches::Switch;
-use crate::{choice, nodes, state, switches, tally};
-use kernel::jobs;
+use crate::{choice, nodes, switches};
+use kernel::accepted::Accepted;
 
-// The switch x as the next node, with all that may follow it. Nodes from number `cap` on are left out. Job `first` is the first unfinished one, and the first `out`
-// jobs are released by the tick of the dispatch.
-#[cycle(cut_off_grow_hang_leave)]
-pub fn hang(
-    set: &[u32; 322],
-    state: &mut [u32; 128],
-    words: &mut [u32],
-    x: Switch,
-    seen: u64,
-    parent: u32,
-    depth: usize,
-    cap: u32,
-    first: usize,
-    out: usize,
-) -> u64
-    requires { HangAsk set.now state.old x (count_of seen) depth cap first out }
-    ensures { Hung set.now state.old state.new x parent depth cap words.old (count_of seen) words.new (count_of result) }
-{
-    let at = tally::nodes(seen);
-    if cap <= at {
-        return seen;
-    }
-    let d = x.job as usize;
-    if jobs::jobs(set) <= d {
-        nodes::put(words, at, parent, x, 4294967295, 4294967295);
-        return tally::with_order(seen);
-    }
-    let was = state::of_job(state, d);
-    nodes::put(words, at, parent, x, x.job, was.segment);
-    state::put(state, d, state::resumed(set, d, was));
-    let more = tally::with_node(seen);
-    let all = grow(
-        set, state, words, d, x.from, x.to, more, at, depth, cap, first, out,
-    );
-    state::put(state, d, was);
-    all
+// A walk under way: how the jobs stand, the words that hold the nodes, and how many there are. Nodes from number `cap` on are left out.
+#[derive(Drop)]
+pub struct Walk<'a> {
+    pub set: &'a Accepted,
+    pub words: &'a mut [u32],
+    pub state: [Standing; 32],
+    pub seen: Counts,
+    pub cap: u32,
+    ghost room: { Room seen cap },
 }
 
-// All that may follow while job j runs, which starts at a tick from `from` to `to`.
-#[cycle(cut_off_grow_hang_leave)]
-fn grow(
-    set: &[u32; 322],
-    state: &mut [u32; 128],
-    words: &mut [u32],
-    j: usize,
-    from: u32,
-    to: u32,
-    seen: u64,
-    parent: u32,
-    depth: usize,
-    cap: u32,
-    first: usize,
-    out: usize,
-) -> u64
-    requires { GrowAsk set.now state.old j from to (count_of seen) depth cap first out }
-    ensures { Grown set.now state.old state.new j from to parent depth cap words.old (count_of seen) words.new (count_of result) }
-{
-    if depth == 0 {
-        return seen;
+impl<'a> Walk<'a> {
+    ghost use Rattle.walk.specs.Descent.{HangAsk, Hung, GrowAsk, Grown, LeaveAsk, Left, CutAsk, CutOff};
+
+    // The switch x as the next node, with all that may follow it.
+    #[cycle(descent)]
+    pub fn hang(&mut self, x: &Switch, parent: u32, depth: usize, known: Known)
+        requires { HangAsk self.old x.now depth known }
+        ensures { Hung self.old self.new x.now parent depth }
+    {
+        let at = self.seen.nodes;
+        if self.cap <= at {
+            return;
+        }
+        let Some(d) = x.job else {
+            nodes::put(self.words, at, parent, x, u32::MAX, u32::MAX);
+            self.seen = self.seen.with_order();
+            return;
+        };
+        let j = d as usize;
+        let was = self.state[j];
+        nodes::put(self.words, at, parent, x, d, was.segment);
+        self.seen = self.seen.with_node();
+        self.state[j] = was.resumed(self.set, j);
+        self.grow(j, x.from, x.to, at, depth, known);
+        self.state[j] = was;
     }
-    let was = state::of_job(state, j);
-    let early = from + was.least;
-    let late = to + was.most;
-    let released = choice::released(set, out, from);
-    let latest = choice::above(set, state, released, choice::weight(set, state, j), late);
-    let left = leave(
-        set, state, words, j, early, latest, seen, parent, depth, cap, first, released,
-    );
-    if late <= latest {
-        return left;
+
+    // All that may follow while job j runs, which starts at a tick from `from` to `to`.
+    #[cycle(descent)]
+    fn grow(&mut self, j: usize, from: u32, to: u32, parent: u32, depth: usize, known: Known)
+        requires { GrowAsk self.old j from to depth known }
+        ensures { Grown self.old self.new j from to parent depth }
+    {
+        if depth == 0 {
+            return;
+        }
+        let was = self.state[j];
+        let early = from + was.least;
+        let late = to + was.most;
+        let known = known.by(self.set, from);
+        let latest = choice::above(self.set, &self.state, known.released, was.weight(), late);
+        self.leave(j, early, latest, parent, depth, known);
+        if latest < late {
+            self.cut_off(j, early, late, latest, parent, depth, known);
+        }
     }
-    cut_off(
-        set, state, words, j, early, late, latest, left, parent, depth, cap, first, released,
+
+    // Job j leaves its segment by END or STEP at a tick from `early` to `latest`, and all that may follow.
+    #[cycle(descent)]
+    fn leave(&mut self, j: usize, early: u32, latest: u32, parent: u32, depth: usize, known: Known)
+        requires { LeaveAsk self.old j early latest depth known }
+        ensures { Left self.old self.new j early latest parent depth }
+    {
+        let was = self.state[j];
+        let k = was.segment + 1;
+        let kind = self.set.leave_kind(j, k);
+        self.state[j] = Standing::begun(self.set, j, k);
+        let first = choice::first_unfinished(self.set, &self.state, known.first);
+        let known = Known { first, ..known };
+        let mut t = early;
+        // A turn takes the ticks of one span, however many.
+        while t <= latest {
+            let x = switches::span(self.set, &self.state, known, kind, t, latest);
+            self.hang(&x, parent, depth - 1, known);
+            t = x.last + 1;
+        }
+        self.state[j] = was;
+    }
+
+    // Job j is cut at tick `latest`, and all that may follow. At least one tick of its segment is left.
+    #[cycle(descent)]
+    fn cut_off(
+        &mut self,
+        j: usize,
+        early: u32,
+        late: u32,
+        latest: u32,
+        parent: u32,
+        depth: usize,
+        known: Known,
     )
-}
-
-// Job j leaves its segment by END or STEP at a tick from `early` to `latest`, and all that may follow.
-#[cycle(cut_off_grow_hang_leave)]
-fn leave(
-    set: &[u32; 322],
-    state: &mut [u32; 128],
-    words: &mut [u32],
-    j: usize,
-    early: u32,
-    latest: u32,
-    seen: u64,
-    parent: u32,
-    depth: usize,
-    cap: u32,
-    first: usize,
-    out: usize,
-) -> u64
-    requires { LeaveAsk set.now state.old j early latest (count_of seen) depth cap first out }
-    ensures { Left set.now state.old state.new j early latest parent depth cap words.old (count_of seen) words.new (count_of result) }
-{
-    let was = state::of_job(state, j);
-    let k = was.segment + 1;
-    let kind = switches::leave_kind(set, j, k);
-    state::put(state, j, state::begun(set, j, k));
-    let next = choice::first_unfinished(set, state, first);
-    let mut count = seen;
-    let mut t = early;
-    while t <= latest {
-        let x = switches::span(set, state, next, out, kind, t, latest);
-        count = hang(
-            set,
-            state,
-            words,
-            x,
-            count,
-            parent,
-            depth - 1,
-            cap,
-            next,
-            out,
-        );
-        t = x.last + 1;
+        requires { CutAsk self.old j early late latest depth known }
+        ensures { CutOff self.old self.new j early late latest parent depth }
+    {
+        let was = self.state[j];
+        let least = early.saturating_sub(latest).max(1);
+        self.state[j] = was.cut(least, late - latest);
+        let x = switches::cut(self.set, &self.state, known, latest);
+        self.hang(&x, parent, depth - 1, known);
+        self.state[j] = was;
     }
-    state::put(state, j, was);
-    count
-}
-
-// Job j is cut at tick `latest`, and all that may follow.
-#[cycle(cut_off_grow_hang_leave)]
-fn cut_off(
-    set: &[u32; 322],
-    state: &mut [u32; 128],
-    words: &mut [u32],
-    j: usize,
-    early: u32,
-    late: u32,
-    latest: u32,
-    seen: u64,
-    parent: u32,
-    depth: usize,
-    cap: u32,
-    first: usize,
-    out: usize,
-) -> u64
-    requires { CutAsk set.now state.old j early late latest (count_of seen) depth cap first out }
-    ensures { CutOff set.now state.old state.new j early late latest parent depth cap words.old (count_of seen) words.new (count_of result) }
-{
-    let was = state::of_job(state, j);
-    let cut = state::cut(was, switches::least_left(early, latest), late - latest);
-    state::put(state, j, cut);
-    let x = switches::cut(set, state, first, out, latest);
-    let all = hang(
-        set,
-        state,
-        words,
-        x,
-        seen,
-        parent,
-        depth - 1,
-        cap,
-        first,
-        out,
-    );
-    state::put(state, j, was);
-    all
 }

@@ -1,86 +1,66 @@
 // The walk over all orders of a job set, and the tree that it writes.
 #![tactic(auto)]
 
-ghost use Rattle.std.specs.Prelude.{◌≡◌};
-ghost use Rattle.kernel.specs.Words.{set_of, Loaded};
+ghost use Rattle.std.specs.Prelude.{◌≡◌, ◌≤◌};
+ghost use Rattle.kernel.specs.Held.{set_of};
 ghost use Rattle.orders.specs.Laws.Walk.{enough};
-ghost use Rattle.walk.specs.Count.{count_of};
-ghost use Rattle.walk.specs.Tree.{room_of, PassAsk, Passed, Walked};
+ghost use Rattle.walk.specs.Tree.{room_of, Passed, Walked};
 
 mod choice;
+pub mod counts;
 mod descent;
 mod nodes;
 mod state;
 mod switches;
-mod tally;
 
-use kernel::jobs;
-
-// How many nodes and orders the tree has that was written; or it has more nodes than there is room for.
-#[derive(Clone, Copy)]
-pub enum Found {
-    Whole(u32, u32),
-    TooLarge,
-}
+use choice::Known;
+use counts::Counts;
+use descent::Walk;
+use kernel::accepted::Accepted;
 
 // How many nodes these words hold, at most 1,000,000.
 fn room_of(words: usize) -> u32
     ensures { result ≡ room_of words }
 {
-    let room = words / 8;
-    if room < 1000000 { room as u32 } else { 1000000 }
+    (words / 8).min(1000000) as u32
 }
 
 // How many switches may follow the first.
-#[tactic(auto, using(kernel::specs::Laws::Sums::sum_none, kernel::specs::Laws::Sums::sum_more, kernel::specs::Laws::Sums::sum_rises))]
-fn enough(set: &[u32; 322]) -> usize
-    requires { Loaded set.now }
-    ensures { result ≡ enough (set_of set.now) }
+fn enough(set: &Accepted) -> usize
+    ensures { result ≡ enough (set_of set.now.jobs) }
 {
-    let n = jobs::jobs(set);
-    let mut total: usize = 0;
-    let mut i: usize = 0;
-    while i < n {
-        total = total + jobs::segments(set, i) as usize;
-        i += 1;
-    }
-    total + n - 1
+    set.total_segments() + set.jobs.jobs() - 1
 }
 
 // One walk over all orders that writes as many words as are lent, and counts nodes up to `cap`.
-fn pass(set: &[u32; 322], words: &mut [u32], cap: u32) -> u64
-    requires { PassAsk set.now cap }
-    ensures { Passed set.now cap words.old words.new (count_of result) }
+fn pass(set: &Accepted, words: &mut [u32], cap: u32) -> Counts
+    requires { cap ≤ 1000001 }
+    ensures { Passed set.now.jobs cap words.old words.new result }
 {
-    let mut state = state::fresh(set);
-    let next = choice::first_unfinished(set, &state, 0);
-    let first = switches::first(set, &state, next);
-    descent::hang(
+    let mut walk = Walk {
         set,
-        &mut state,
         words,
-        first,
-        0,
-        4294967295,
-        enough(set),
+        state: state::fresh(set),
+        seen: Counts::default(),
         cap,
-        next,
-        0,
-    )
+    };
+    let first = choice::first_unfinished(set, &walk.state, 0);
+    let x = switches::first(set, &walk.state, first);
+    walk.hang(&x, u32::MAX, enough(set), Known { first, released: 0 });
+    walk.seen
 }
 
-// Counts first, so that words that do not hold the whole tree stay as they are.
+// Writes the tree, and answers how many nodes and orders it has; `None` where it has more nodes than there is room for. Counts first, so that words that do not
+// hold the whole tree stay as they are.
 #[tactic(auto, using(crate::specs::Laws::Whole::walked_large))]
-pub fn tree(set: &[u32; 322], words: &mut [u32]) -> Found
-    requires { Loaded set.now }
-    ensures { Walked (set_of set.now) words.old words.new result }
+pub fn tree(set: &Accepted, words: &mut [u32]) -> Option<Counts>
+    ensures { Walked (set_of set.now.jobs) words.old words.new result }
 {
     let room = room_of(words.len());
     let mut scrap = [0u32; 1];
     let seen = pass(set, &mut scrap, room + 1);
-    if room < tally::nodes(seen) {
-        return Found::TooLarge;
+    if room < seen.nodes {
+        return None;
     }
-    let all = pass(set, words, room + 1);
-    Found::Whole(tally::nodes(all), tally::orders(all))
+    Some(pass(set, words, room + 1))
 }

@@ -1,101 +1,84 @@
 // The switches by which a segment may be left.
-ghost use Rattle.std.specs.Prelude.{◌≡◌, ◌-◌, max};
-ghost use Rattle.kernel.specs.Log.{kind_number};
-ghost use Rattle.kernel.specs.Words.{set_of};
+ghost use Rattle.std.specs.Prelude.{◌≡◌};
+ghost use Rattle.kernel.specs.Held.{set_of};
 ghost use Rattle.walk.specs.Choice.{First};
-ghost use Rattle.walk.specs.Switches.{leave_kind_for, switch_for, SwitchAsk, SpanAsk, Spanned, Cuts, Begins};
+ghost use Rattle.walk.specs.Switches.{release_of, switch_to, SwitchAsk, SpanAsk, Spanned, Cuts, Begins};
 
-use crate::choice;
-use kernel::jobs;
+use crate::choice::{self, Known};
+use crate::state::Standing;
+use kernel::accepted::Accepted;
+use kernel::kind::Kind;
 
-// From its first to its last tick of leaving; the job that it names, and from when to when that starts. Kinds have paper 01's numbers.
+// From its first to its last tick of leaving; the job that it names, where one is left, and from when to when that starts.
 #[derive(Clone, Copy)]
 pub struct Switch {
-    pub kind: u32,
+    pub kind: Kind,
     pub first: u32,
     pub last: u32,
-    pub job: u32,
+    pub job: Option<u32>,
     pub from: u32,
     pub to: u32,
 }
 
-fn later(x: u32, y: u32) -> u32
-    ensures { result ≡ max x y }
+// When a job is released; 0 where there is none.
+fn released(set: &Accepted, job: Option<u32>) -> u32
+    ensures { result ≡ release_of (set_of set.now.jobs) job }
 {
-    if x < y { y } else { x }
+    job.map_or(0, |d| set.jobs.release(d as usize))
 }
 
-// STEP where job i has a segment k, else END.
-#[tactic(auto, unfolding(kernel::specs::Laws::Tests::iflt))]
-pub fn leave_kind(set: &[u32; 322], i: usize, k: u32) -> u32
-    ensures { result ≡ kind_number (leave_kind_for (set_of set.now) i k) }
+// The switch to a job, of the ticks of leaving from first to last.
+fn to_job(set: &Accepted, kind: Kind, first: u32, last: u32, job: Option<u32>) -> Switch
+    ensures { result ≡ switch_to (set_of set.now.jobs) kind first last job }
 {
-    if k < jobs::segments(set, i) { 2 } else { 1 }
-}
-
-// What is left at least of a segment that is cut at tick t and could end at tick `early` first: at least one tick.
-pub fn least_left(early: u32, t: u32) -> u32
-    ensures { result ≡ max 1 (early - t) }
-{
-    if early <= t {
-        return 1;
-    }
-    early - t
-}
-
-// The switch to job d of the ticks of leaving from first to last.
-fn to_job(set: &[u32; 322], kind: u32, first: u32, last: u32, d: u32) -> Switch
-    ensures { result ≡ switch_for (set_of set.now) kind first last d }
-{
-    let release = jobs::release(set, d as usize);
+    let release = released(set, job);
     Switch {
         kind,
         first,
         last,
-        job: d,
-        from: later(first, release),
-        to: later(last, release),
+        job,
+        from: first.max(release),
+        to: last.max(release),
     }
 }
 
 // The switch of the ticks of leaving from t to `latest` at most that lead to one job.
 pub fn span(
-    set: &[u32; 322],
-    state: &[u32; 128],
-    first: usize,
-    out: usize,
-    kind: u32,
+    set: &Accepted,
+    state: &[Standing; 32],
+    known: Known,
+    kind: Kind,
     t: u32,
     latest: u32,
 ) -> Switch
-    requires { SpanAsk set.now state.now first out t latest }
-    ensures { Spanned set.now state.now kind t latest result }
+    requires { SpanAsk set.now.jobs state.now known t latest }
+    ensures { Spanned set.now.jobs state.now kind t latest result }
 {
-    let released = choice::released(set, out, t);
-    let d = choice::after(set, state, first, released);
-    let weight = choice::weight(set, state, d as usize);
-    let end = choice::above(set, state, released, weight, latest + 1);
-    to_job(set, kind, t, end - 1, d)
+    let known = known.by(set, t);
+    let job = choice::after(set, state, known);
+    let weight = choice::weight(state, job);
+    let end = choice::above(set, state, known.released, weight, latest + 1);
+    to_job(set, kind, t, end - 1, job)
 }
 
 // The switch by a cut at tick t.
 #[tactic(auto, using(crate::specs::Laws::Spanned::cuts))]
-pub fn cut(set: &[u32; 322], state: &[u32; 128], first: usize, out: usize, t: u32) -> Switch
-    requires { SwitchAsk set.now state.now first out t }
-    ensures { Cuts set.now state.now t result }
+pub fn cut(set: &Accepted, state: &[Standing; 32], known: Known, t: u32) -> Switch
+    requires { SwitchAsk set.now.jobs state.now known t }
+    ensures { Cuts set.now.jobs state.now t result }
 {
-    let released = choice::released(set, out, t);
-    to_job(set, 3, t, t, choice::after(set, state, first, released))
+    let job = choice::after(set, state, known.by(set, t));
+    to_job(set, Kind::Cut, t, t, job)
 }
 
 // The first dispatch, which is a switch at its own tick.
 #[tactic(auto, using(crate::specs::Laws::Spanned::begins))]
-pub fn first(set: &[u32; 322], state: &[u32; 128], first: usize) -> Switch
-    requires { First set.now state.now first }
-    ensures { Begins set.now state.now result }
+pub fn first(set: &Accepted, state: &[Standing; 32], first: usize) -> Switch
+    requires { First set.now.jobs state.now first }
+    ensures { Begins set.now.jobs state.now result }
 {
-    let released = choice::released(set, 0, 0);
-    let d = choice::after(set, state, first, released);
-    let tick = jobs::release(set, d as usize);
-    to_job(set, 0, tick, tick, d)
+    let known = Known { first, released: 0 };
+    let job = choice::after(set, state, known.by(set, 0));
+    let tick = released(set, job);
+    to_job(set, Kind::First, tick, tick, job)
 }

@@ -1,10 +1,12 @@
-use Rattle.std.proofs.Common.{rules}
-use Rattle.walk.specs.Laws.Counting.{count_none}
+use Rattle.std.proofs.Common.{rules, sym}
 use Rattle.walk.specs.Laws.Root.{root_ask, root_passed}
 use Rattle.walk.proofs.pass.Goals as goal
 
 pub hang-requires : goal.hang-requires
-hang-requires c = rw count_none (search (rules, root_ask))
+hang-requires c = search (rules, root_ask)
 
 pub returns : goal.returns
-returns c = let walked = rw count_none at c.hang.ensures in search (rules, root_passed)
+returns c =
+    let same = sym c.hang.ensures.kept.same_words in
+    root_passed c.args.set c.fresh.result c.fresh.ensures c.first-x.result c.first-x.ensures _ _ c.hang.new.self c.args.cap c.enough.result _ _
+    (search rules) (search rules) c.enough.ensures c.hang.ensures

@@ -1,23 +1,24 @@
--- The moves of a walk on its words: a job leaves its segment, is dispatched, is cut. The words still stand for the control and the limits.
+-- The moves of a walk on its row of jobs: a job leaves its segment, is dispatched, is cut. The row still stands for the control and the limits.
+use Rattle.kernel.specs.declared.jobs.Jobs.{Jobs}
 use Rattle.std.specs.Prelude.{ℕ, suc, ◌+◌, ◌≤◌, ◌<◌, ◌≡◌, ◌≢◌, Bool, List, length}
-use Rattle.std.proofs.Common.{arith, refl, sym, ap, ◌∙◌, le-ltb}
+use Rattle.std.proofs.Common.{arith, refl, sym, ap, ◌∙◌, le-ltb, length-set}
 use Rattle.std.proofs.Math.Decide.{ℕ_discrete}
 use Rattle.std.proofs.Math.Bool.{true}
 use Rattle.kernel.specs.Rules.{JobSet}
 use Rattle.kernel.specs.Code.{weight_at}
-use Rattle.kernel.specs.Jobs.{clipped}
-use Rattle.kernel.specs.Words.{set_of, Loaded}
+use Rattle.kernel.specs.Held.{segment_at, set_of, Loaded}
 use Rattle.kernel.specs.Laws.Tests.{split}
 use Rattle.kernel.specs.Laws.Places.{put_same, put_other, put2, put2_same, put2_cases}
 use Rattle.kernel.specs.Laws.Control.{Control, leave, mark, weight}
 use Rattle.kernel.specs.Laws.Key.{key_of}
-use Rattle.walk.specs.State.{standing_at, put_at, begun_at, resumed_as, cut_as, Stands}
-use Rattle.walk.specs.Laws.Standing.{put_length, standing_cases}
+use Rattle.std.proofs.Math.ListN.{set}
+use Rattle.walk.specs.State.{standing_at, begun_at, resumed_as, cut_as, Stands}
+use Rattle.walk.specs.Laws.Standing.{standing_cases}
 use Rattle.walk.specs.declared.state.Standing.{Standing}
 
 -- ---- job by job
 
--- what the words say of job i
+-- what the row says of job i
 pub record JobStands (J : JobSet) (κ : Control) (least most : ℕ → ℕ → ℕ) (i : ℕ) (x : Standing) : Type 0 where
   pub key : x.key ≡ key_of (weight J κ i) i
   pub segment : x.segment ≡ κ.segment i
@@ -30,13 +31,13 @@ abbrev Later : JobSet → Control → (limit own : ℕ → ℕ → ℕ) → Type
 Later J κ limit own = (i k : ℕ) → i < J.jobs → κ.segment i < k → limit i k ≡ own i k
 
 module _ (J : JobSet) where
-  job_stands : (s : List ℕ) (κ : Control) (least most : ℕ → ℕ → ℕ) → Stands J s κ least most
+  job_stands : (s : List Standing) (κ : Control) (least most : ℕ → ℕ → ℕ) → Stands J s κ least most
       → (i : ℕ) → i < J.jobs → JobStands J κ least most i (standing_at s i)
   job_stands s κ least most S i h =
       record { key = S.keyed i h; segment = S.segment i h; low = S.low i h; high = S.high i h; small = S.small i h }
 
   -- all jobs do
-  pub all_stand : (s : List ℕ) (κ : Control) (least most : ℕ → ℕ → ℕ) → length s ≡ 128
+  pub all_stand : (s : List Standing) (κ : Control) (least most : ℕ → ℕ → ℕ) → length s ≡ 32
       → ((i : ℕ) → i < J.jobs → JobStands J κ least most i (standing_at s i))
       → Later J κ least J.shortest → Later J κ most J.longest → Stands J s κ least most
   all_stand s κ least most l f low high = record {
@@ -51,13 +52,13 @@ module _ (J : JobSet) where
   }
 
   -- one job is put, and what is said of the others stays
-  put_stands : (s : List ℕ) (κ κ' : Control) (least most least' most' : ℕ → ℕ → ℕ) (j : ℕ) (x : Standing) → Stands J s κ least most → j < 32
+  put_stands : (s : List Standing) (κ κ' : Control) (least most least' most' : ℕ → ℕ → ℕ) (j : ℕ) (x : Standing) → Stands J s κ least most → j < 32
       → JobStands J κ' least' most' j x
       → ((i : ℕ) → i ≢ j → (y : Standing) → JobStands J κ least most i y → JobStands J κ' least' most' i y)
-      → Later J κ' least' J.shortest → Later J κ' most' J.longest → Stands J (put_at s j x) κ' least' most'
+      → Later J κ' least' J.shortest → Later J κ' most' J.longest → Stands J (set s j x) κ' least' most'
   put_stands s κ κ' least most least' most' j x S h here other low high =
-      all_stand (put_at s j x) κ' least' most' (put_length s j x ∙ S.size)
-      (standing_cases s j x S.size h (λ i y. i < J.jobs → JobStands J κ' least' most' i y) (λ q. here)
+      all_stand (set s j x) κ' least' most' (length-set s j x ∙ S.size)
+      (standing_cases s j x (omega (arith, S.size)) (λ i y. i < J.jobs → JobStands J κ' least' most' i y) (λ q. here)
       (λ i d q. other i d (standing_at s i) (job_stands s κ least most S i q)))
       low high
 
@@ -91,16 +92,16 @@ stays J κ κ' least most least' most' i x e f l m S =
     }
 
 -- the time of a segment is small, also where there is no such segment
-no_segment : (w : List ℕ) (i k : ℕ) → (set_of w).segments i ≤ k → (set_of w).longest i k ≡ 0
-unfolding set_of clipped
+no_segment : (w : Jobs) (i k : ℕ) → (set_of w).segments i ≤ k → (set_of w).longest i k ≡ 0
+unfolding set_of segment_at
 no_segment w i k h = rw (le-ltb k _ h)
 
-pub longest_small : (w : List ℕ) → Loaded w → (i k : ℕ) → i < (set_of w).jobs → (set_of w).longest i k ≤ 1000000
+pub longest_small : (w : Jobs) → Loaded w → (i k : ℕ) → i < (set_of w).jobs → (set_of w).longest i k ≤ 1000000
 longest_small w L i k h = split k ((set_of w).segments i) (λ q. L.small_times i k h q) (λ q. omega (arith, no_segment w i k q))
 
 -- ---- the moves
 
-module _ (w s : List ℕ) (L : Loaded w) (κ : Control) (least most : ℕ → ℕ → ℕ) (S : Stands (set_of w) s κ least most) (j : ℕ) (h : j < (set_of w).jobs) where
+module _ (w : Jobs) (s : List Standing) (L : Loaded w) (κ : Control) (least most : ℕ → ℕ → ℕ) (S : Stands (set_of w) s κ least most) (j : ℕ) (h : j < (set_of w).jobs) where
   abbrev J : JobSet
   J = set_of w
 
@@ -108,7 +109,7 @@ module _ (w s : List ℕ) (L : Loaded w) (κ : Control) (least most : ℕ → �
   few = omega (arith, L.few_jobs)
 
   -- job j is dispatched
-  pub dispatch_stands : Stands J (put_at s j (resumed_as J j (standing_at s j))) (mark κ j) least most
+  pub dispatch_stands : Stands J (set s j (resumed_as J j (standing_at s j))) (mark κ j) least most
   unfolding mark
   dispatch_stands =
       let T = job_stands J s κ least most S j h in
@@ -130,7 +131,7 @@ module _ (w s : List ℕ) (L : Loaded w) (κ : Control) (least most : ℕ → �
       elsewhere limit j (κ.segment j) x i m (λ a b. omega (arith, ap κ.segment a)) ∙ later i m q z
 
   pub cut_stands : (x y : ℕ) → y ≤ 1000000
-      → Stands J (put_at s j (cut_as (standing_at s j) x y)) κ (put2 least j (κ.segment j) x) (put2 most j (κ.segment j) y)
+      → Stands J (set s j (cut_as (standing_at s j) x y)) κ (put2 least j (κ.segment j) x) (put2 most j (κ.segment j) y)
   cut_stands x y q =
       let T = job_stands J s κ least most S j h in
       put_stands J s κ κ least most _ _ j (cut_as (standing_at s j) x y) S few
@@ -173,7 +174,7 @@ module _ (w s : List ℕ) (L : Loaded w) (κ : Control) (least most : ℕ → �
         elsewhere limit j (κ.segment j) 0 i m (λ a b. omega (arith, ap κ.segment a)) ∙ later i m q z'
 
     pub leave_stands : κ.begun j ≡ true
-        → Stands J (put_at s j (begun_at J j (k + 1))) (leave κ j) (put2 least j (κ.segment j) 0) (put2 most j (κ.segment j) 0)
+        → Stands J (set s j (begun_at J j (k + 1))) (leave κ j) (put2 least j (κ.segment j) 0) (put2 most j (κ.segment j) 0)
     leave_stands b = put_stands J s κ (leave κ j) least most _ _ j (begun_at J j (k + 1)) S few
         (record {
           key = ap (λ v. key_of v j) (weight_at_lem J (leave κ j) j (k + 1) true left_segment (unfold leave in b));

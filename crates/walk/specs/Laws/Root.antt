@@ -1,9 +1,11 @@
--- The root of the walk: the words in which no job has begun, and the first dispatch.
-use Rattle.std.proofs.Common.{ℕ, ◌≤◌, ◌<◌, max, arith, sym, ap, ◌∙◌, subst}
+-- The root of the walk: the row in which no job has begun, and the first dispatch.
+use Rattle.walk.specs.declared.state.Standing.{Standing}
+use Rattle.kernel.specs.declared.jobs.Jobs.{Jobs}
+use Rattle.std.proofs.Common.{ℕ, ◌<◌, max, arith, sym, ap, ◌∙◌, subst}
 use Rattle.std.specs.Prelude.{◌≡◌, refl, List}
 use Rattle.kernel.specs.Rules.{JobSet, FIRST}
 use Rattle.kernel.specs.Log.{nothing}
-use Rattle.kernel.specs.Words.{set_of, Loaded}
+use Rattle.kernel.specs.Held.{set_of, Loaded}
 use Rattle.kernel.specs.Laws.Control.{weight, after}
 use Rattle.kernel.specs.Laws.Fall.{unbegun}
 use Rattle.kernel.specs.Laws.Step.{dispatch, first_tick}
@@ -11,16 +13,22 @@ use Rattle.orders.specs.Laws.Box.{Child, Span, child}
 use Rattle.orders.specs.Laws.Child.{Owes}
 use Rattle.orders.specs.Laws.Walk.{first_child, enough, the_tree}
 use Rattle.orders.specs.Laws.First.{first_fits}
+use Rattle.kernel.specs.Code.{kind_of}
+use Rattle.kernel.specs.declared.kind.Kind.TheVariants.{First as KindFirst}
 use Rattle.walk.specs.State.{standing_at, Unbegun, Stands}
 use Rattle.walk.specs.Choice.{Out, First}
 use Rattle.walk.specs.Switches.{switch_of, switch_for, Begins}
+use Rattle.std.specs.Borrow.{Bor, MutBor}
+use Rattle.kernel.specs.declared.accepted.Accepted.{Accepted}
 use Rattle.walk.specs.Descent.{High, Twig, HangAsk, Hung}
+use Rattle.walk.specs.declared.descent.Walk.{Walk}
 use Rattle.walk.specs.Tree.{Passed}
 use Rattle.walk.specs.Laws.Moves.{JobStands, all_stand, longest_small}
 use Rattle.walk.specs.Laws.Ticks.{release_small}
-use Rattle.walk.specs.Laws.Twigs.{after_inside}
+use Rattle.walk.specs.Laws.Twigs.{after_inside, own_kind}
 use Rattle.walk.specs.declared.switches.Switch.{Switch}
-use Rattle.walk.specs.Count.{Count}
+use Rattle.walk.specs.declared.counts.Counts.{Counts}
+use Rattle.walk.specs.Counts.{no_counts, Room}
 
 -- ---- the first dispatch, as the child of a span
 
@@ -44,13 +52,13 @@ module _ (J : JobSet) where
         box = record { from = start i; to = start i; least = J.shortest; most = J.longest };
       }
 
--- ---- the words in which no job has begun
+-- ---- the row in which no job has begun
 
 -- nothing is known of the jobs yet
-pub none_out : {w : List ℕ} {t : ℕ} → Loaded w → Out w t 0
-none_out L = record { loaded = L; inside = omega arith; out = λ i (h : i < 0). absurd (omega arith) }
+pub none_out : {w : Jobs} {t : ℕ} → Out w t 0
+none_out = record { inside = omega arith; out = λ i (h : i < 0). absurd (omega arith) }
 
-module _ (w s : List ℕ) (L : Loaded w) (U : Unbegun (set_of w) s) where
+module _ (w : Jobs) (s : List Standing) (L : Loaded w) (U : Unbegun (set_of w) s) where
   abbrev J : JobSet
   J = set_of w
 
@@ -63,17 +71,17 @@ module _ (w s : List ℕ) (L : Loaded w) (U : Unbegun (set_of w) s) where
 
   module _ (x : Switch) (F : Begins w s x) where
     -- the first dispatch is a switch at its own tick
-    root_switch : x ≡ switch_of J 0 (first_span J)
+    root_switch : x ≡ switch_of J KindFirst (first_span J)
     root_switch =
         let d : ℕ = after J unbegun 0 in
         let tick : J.release d ≡ first_tick J = omega arith in
-        F.begins unbegun root_stands.keyed ∙ λ i. switch_for J 0 (tick i) (tick i) d
+        F.begins unbegun root_stands.keyed ∙ λ i. switch_for J KindFirst (tick i) (tick i) d
 
     root_owes : Owes J (root_child J).state (root_child J).box
     root_owes = subst (λ (y : Child). Owes J y.state y.box) (sym (root_child_lem J)) (first_fits J L.lawful).kept
 
     pub root_twig : Twig w s x FIRST unbegun J.shortest J.longest (first_span J)
-    root_twig = record { switch = root_switch; stands = root_stands; inside = after_inside J L.lawful unbegun 0; owes = root_owes }
+    root_twig = record { same_kind = ap (λ (y : Switch). kind_of y.kind) root_switch; switch = own_kind J (first_span J) root_switch; stands = root_stands; inside = after_inside J L.lawful unbegun 0; owes = root_owes }
 
     root_high : High x.to (enough J)
     root_high =
@@ -81,24 +89,31 @@ module _ (w s : List ℕ) (L : Loaded w) (U : Unbegun (set_of w) s) where
         let to = ap (λ (y : Switch). y.to) root_switch in
         record { near = omega (arith, L.few_segments, L.few_jobs); deep = omega (arith, L.few_segments, L.few_jobs) }
 
-    -- what the descent asks at the root
-    pub root_ask : (depth cap next : ℕ) → depth ≡ enough J → cap ≤ 1000001 → First w s next → HangAsk w s x (record { nodes = 0; orders = 0 }) depth cap next 0
-    root_ask depth cap next e m N = rw e (record {
-      loaded = L;
-      next = record { first = N; out = none_out L };
-      room = record { nodes = omega arith; orders = omega arith; most = m };
-      kind = FIRST;
-      control = unbegun;
-      least = J.shortest;
-      most = J.longest;
-      span = first_span J;
-      twig = root_twig;
-      high = root_high;
-    })
+module _ (set : Bor Accepted) (s : List Standing) (U : Unbegun (set_of set.now.jobs) s) (x : Switch) (F : Begins set.now.jobs s x) where
+  abbrev w : Jobs
+  w = set.now.jobs
 
-    -- and what it gives there: the whole tree
-    pub root_passed : (s' : List ℕ) (depth cap : ℕ) (before after : List ℕ) (c : Count) → depth ≡ enough J
-        → Hung w s s' x nothing depth cap before (record { nodes = 0; orders = 0 }) after c → Passed w cap before after c
-    unfolding the_tree
-    root_passed s' depth cap before after c e H =
-        rw (e, root_child_lem J) at (H.wrote FIRST unbegun J.shortest J.longest (first_span J) root_twig)
+  -- a walk at the root
+  abbrev pub start : (b : MutBor (List ℕ)) (c : Counts) (cap : ℕ) → Room c cap → Walk
+  start b c cap r = record { set = set; words = b; state = s; seen = c; cap = cap; room = r }
+
+  -- what the descent asks there
+  pub root_ask : (b : MutBor (List ℕ)) (c : Counts) (cap depth next : ℕ) (r : Room c cap) → depth ≡ enough (set_of w) → First w s next
+      → HangAsk (start b c cap r) x depth (record { first = next; released = 0 })
+  root_ask b c cap depth next r e N = rw e (record {
+    next = record { first = N; out = none_out };
+    kind = FIRST;
+    control = unbegun;
+    least = (set_of w).shortest;
+    most = (set_of w).longest;
+    span = first_span (set_of w);
+    twig = root_twig w s set.now.loaded U x F;
+    high = root_high w s set.now.loaded U x F;
+  })
+
+  -- and what it gives: the whole tree
+  pub root_passed : (b : MutBor (List ℕ)) (c : Counts) (n : Walk) (cap depth : ℕ) (r : Room c cap) (after : List ℕ) → c ≡ no_counts → after ≡ n.words.now → depth ≡ enough (set_of w)
+      → Hung (start b c cap r) n x nothing depth → Passed w cap b.now after n.seen
+  unfolding the_tree
+  root_passed b c n cap depth r after ec ew e H =
+      rw ew (rw (ec, e, root_child_lem (set_of w)) at (H.wrote FIRST unbegun (set_of w).shortest (set_of w).longest (first_span (set_of w)) (root_twig w s set.now.loaded U x F)))

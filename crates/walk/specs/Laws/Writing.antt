@@ -11,34 +11,30 @@ use Rattle.orders.specs.Laws.Box.{Box, Child}
 use Rattle.orders.specs.Laws.Walk.{hang}
 use Rattle.orders.specs.Laws.Words.{words, words_length}
 use Rattle.kernel.proofs.Noted.{sets_append}
-use Rattle.walk.specs.Descent.{ends, Room, Wrote}
+use Rattle.walk.specs.Descent.{ends, Wrote}
+use Rattle.walk.specs.Counts.{Room}
 use Rattle.walk.specs.Laws.Forests.{size_append, ends_append, words_append}
-use Rattle.walk.specs.Count.{Count}
-
--- a count that stays within its limit
-pub still_room : {J : JobSet} {F : Forest} {parent cap : ℕ} {b b' : List ℕ} {c c' : Count} → Room c cap → Wrote J F parent cap b c b' c' → Room c' cap
-still_room r W = record { nodes = omega (arith, W.nodes); orders = W.orders r.orders; most = r.most }
+use Rattle.walk.specs.declared.counts.Counts.{Counts}
 
 module _ {J : JobSet} {parent cap : ℕ} where
-  pub wrote_none : {b : List ℕ} {c : Count} → Room c cap → Wrote J none parent cap b c b c
+  pub wrote_none : {b : List ℕ} {c : Counts} → Room c cap → Wrote J none parent cap b c b c
   unfolding size words ends
-  wrote_none r = record { nodes = omega (arith, r.nodes); orders = λ h. h; full = λ h. (refl, omega arith) }
+  wrote_none r = record { nodes = omega (arith, r.nodes); full = λ h. (refl, omega arith) }
 
   -- the limit is reached
-  pub wrote_past : {x : Info} {F G : Forest} {b : List ℕ} {c : Count} → Room c cap → cap ≤ c.nodes → Wrote J (node x F G) parent cap b c b c
+  pub wrote_past : {x : Info} {F G : Forest} {b : List ℕ} {c : Counts} → Room c cap → cap ≤ c.nodes → Wrote J (node x F G) parent cap b c b c
   unfolding size
-  wrote_past r h = record { nodes = omega (arith, r.nodes); orders = λ h. h; full = λ q. absurd (omega arith) }
+  wrote_past r h = record { nodes = omega (arith, r.nodes); full = λ q. absurd (omega arith) }
 
   -- a node, counted as an order where it ends a run, and then what stands below it
-  pub wrote_node : {x : Info} {F : Forest} {b b' b'' : List ℕ} {c c' c'' : Count} {last : ℕ} → c.nodes < cap
-      → b' ≡ sets b (8 * c.nodes) (node_words J (parent, x)) → iflt x.label.job J.jobs 0 1 ≡ last → last ≤ 1
+  pub wrote_node : {x : Info} {F : Forest} {b b' b'' : List ℕ} {c c' c'' : Counts} {last : ℕ} → c.nodes < cap
+      → b' ≡ sets b (8 * c.nodes) (node_words J (parent, x)) → iflt x.label.job J.jobs 0 1 ≡ last
       → c'.nodes ≡ c.nodes + 1 → c'.orders ≡ c.orders + last
       → Wrote J F c.nodes cap b' c' b'' c''
       → Wrote J (node x F none) parent cap b c b'' c''
   unfolding size words ends
-  wrote_node {x} {F} {b} {b'} {c = c} {c' = c'} h p e l en eo W = record {
+  wrote_node {x} {F} {b} {b'} {c = c} {c' = c'} h p e en eo W = record {
     nodes = omega (arith, W.nodes);
-    orders = λ q. W.orders (omega arith);
     full = λ q.
         let (y, z) = W.full (omega arith) in
         let row : List ℕ = node_words J (parent, x) in
@@ -52,14 +48,13 @@ module _ {J : JobSet} {parent cap : ℕ} where
   }
 
   -- siblings, and then more siblings
-  pub wrote_append : (below : State → Box → Forest) (xs ys : List Child) {b b' b'' : List ℕ} {c c' c'' : Count}
+  pub wrote_append : (below : State → Box → Forest) (xs ys : List Child) {b b' b'' : List ℕ} {c c' c'' : Counts}
       → Wrote J (hang below xs) parent cap b c b' c' → Wrote J (hang below ys) parent cap b' c' b'' c''
       → Wrote J (hang below (xs ++ ys)) parent cap b c b'' c''
   wrote_append below xs ys {b} {c = c} {c' = c'} U W =
       let m = size_append J below xs ys in
       record {
         nodes = omega (arith, U.nodes, W.nodes);
-        orders = λ h. W.orders (U.orders h);
         full = λ h.
             let e : c'.nodes ≡ c.nodes + size (hang below xs) = omega (arith, U.nodes) in
             let (p, q) = U.full (omega arith) in
