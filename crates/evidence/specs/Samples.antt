@@ -1,14 +1,14 @@
 -- The sample tables of paper 01 that are marked P: tables of bytes, calls, and what every answer must be that keeps the service's promise.
-use Rattle.std.specs.Prelude.{ℕ, ◌≤◌, ◌≡◌, false, length}
+use Rattle.std.specs.Prelude.{ℕ, ◌≤◌, ◌≡◌, length, Result, Ok}
 use mathlib.Core.List.{List, [], ◌∷◌, ◌++◌, flatten}
 use Rattle.std.proofs.lemmas.List.Edits.{sets}
 use Rattle.kernel.specs.Log.{nothing}
 use Rattle.services.specs.Replay.{ReplayPromise}
 use Rattle.services.specs.Judge.{JudgePromise}
 use Rattle.services.specs.Tree.{TreePromise}
-use Rattle.services.specs.declared.Replayed.{Replayed}
-use Rattle.services.specs.declared.Judged.{Judged}
-use Rattle.services.specs.declared.Drawn.{Drawn}
+use Rattle.services.specs.Refusals.{Declines}
+use Rattle.services.specs.declared.refusal.Refusal.{Refusal}
+use Rattle.walk.specs.declared.counts.Counts.{Counts}
 
 -- ---- tables of bytes; all numbers in them are below 256
 
@@ -59,18 +59,18 @@ pub data Answer : Type 0 where
 
 -- every answer that keeps the promise is this one, and leaves these words
 abbrev pub Keeps : List ℕ → Call → Answer → Type 0
-Keeps bytes (tree words) (refused n) = (before after : List ℕ) (r : Drawn) → length before ≡ words → TreePromise bytes before after r
-    → (r ≡ record { refusal = n; nodes = 0; orders = 0 }) × (after ≡ before)
-Keeps bytes (tree words) (grown nodes orders) = (before after : List ℕ) (r : Drawn) → length before ≡ words → TreePromise bytes before after r
-    → (r ≡ record { refusal = 0; nodes = length nodes; orders = orders }) × (after ≡ sets before 0 (flatten nodes))
+Keeps bytes (tree words) (refused n) = (before after : List ℕ) (r : Result Counts Refusal) → length before ≡ words → TreePromise bytes before after r
+    → Declines r n × (after ≡ before)
+Keeps bytes (tree words) (grown nodes orders) = (before after : List ℕ) (r : Result Counts Refusal) → length before ≡ words → TreePromise bytes before after r
+    → (r ≡ Ok (record { nodes = length nodes; orders = orders })) × (after ≡ sets before 0 (flatten nodes))
 Keeps bytes (tree words) (logged switches) = ⊥
-Keeps bytes (replay times) (refused n) = (before after : List ℕ) (r : Replayed) → 400 ≤ length before → ReplayPromise bytes times before after r
-    → (r ≡ record { refusal = n; switches = 0 }) × (after ≡ before)
+Keeps bytes (replay times) (refused n) = (before after : List ℕ) (r : Result ℕ Refusal) → 400 ≤ length before → ReplayPromise bytes times before after r
+    → Declines r n × (after ≡ before)
 Keeps bytes (replay times) (grown nodes orders) = ⊥
-Keeps bytes (replay times) (logged switches) = (before after : List ℕ) (r : Replayed) → 400 ≤ length before → ReplayPromise bytes times before after r
-    → (r ≡ record { refusal = 0; switches = length switches }) × (after ≡ sets before 0 (flatten switches))
-Keeps bytes (judge log) (refused n) = (before after : List ℕ) (r : Judged) → 400 ≤ length before → JudgePromise bytes log before after r
-    → (r ≡ record { refusal = n; accepted = false }) × (after ≡ before)
+Keeps bytes (replay times) (logged switches) = (before after : List ℕ) (r : Result ℕ Refusal) → 400 ≤ length before → ReplayPromise bytes times before after r
+    → (r ≡ Ok (length switches)) × (after ≡ sets before 0 (flatten switches))
+Keeps bytes (judge log) (refused n) = (before after : List ℕ) (r : Result (Unit {0}) Refusal) → 400 ≤ length before → JudgePromise bytes log before after r
+    → Declines r n × (after ≡ before)
 Keeps bytes (judge log) (grown nodes orders) = ⊥
 Keeps bytes (judge log) (logged switches) = ⊥
 

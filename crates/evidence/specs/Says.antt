@@ -1,6 +1,6 @@
 -- What a service's promise says of a table, from what is computed of it.
-use Rattle.std.specs.Prelude.{ℕ, ◌*◌, ◌≤◌, ◌<◌, ◌≡◌, length}
-use Rattle.std.proofs.Common.{arith, ap, ◌∙◌}
+use Rattle.std.specs.Prelude.{ℕ, ◌*◌, ◌≤◌, ◌<◌, ◌≡◌, length, Ok}
+use Rattle.std.proofs.Common.{arith, ap, subst, ◌∙◌}
 use mathlib.Core.List.{List, flatten}
 use Rattle.std.proofs.lemmas.List.Edits.{sets}
 use Rattle.table.specs.Refusal.{refusal, table_of}
@@ -10,6 +10,7 @@ use Rattle.jobset.specs.Laws.Accepted.{accepted_lawful}
 use Rattle.orders.specs.Orders.{Forest, size, TreeOf}
 use Rattle.orders.specs.Nodes.{tree_words, orders}
 use Rattle.orders.specs.Laws.Walk.{the_tree}
+use Rattle.services.specs.Refusals.{Declines}
 use Rattle.services.specs.Open.{jobs_in, Runnable}
 use Rattle.services.specs.Times.{Fit}
 use Rattle.services.specs.Replay.{run_in, log_in}
@@ -27,7 +28,7 @@ module _ (bytes : List ℕ) where
 
   -- 1 to 4
   pub tree_faulty : (words n : ℕ) → ((refusal bytes).number ≡ 0 → ⊥) → (refusal bytes).number ≡ n → Keeps bytes (tree words) (refused n)
-  tree_faulty words n z e before after r l P = let (a, b) = P.faulty z in (a ∙ (λ i. record { refusal = e i; nodes = 0; orders = 0 }), b)
+  tree_faulty words n z e before after r l P = let (a, b) = P.faulty z in (subst (Declines r) e a, b)
 
   module _ (whole : (refusal bytes).number ≡ 0) where
     -- 5
@@ -49,13 +50,13 @@ module _ (bytes : List ℕ) where
           → orders T ≡ o → tree_words J T ≡ flatten nodes → Keeps bytes (tree words) (grown nodes o)
       tree_grown words nodes o h q e d w before after r l P =
           let (a, b) = (P.runnable runnable).done T right (omega arith) in
-          (a ∙ (λ i. record { refusal = 0; nodes = e i; orders = d i }), b ∙ ap (sets before 0) w)
+          (a ∙ (λ i. Ok (record { nodes = e i; orders = d i })), b ∙ ap (sets before 0) w)
 
       pub replay_logged : (times : List ℕ) (switches : List (List ℕ)) → length (flatten switches) ≤ 400 → Fit J times → length (run_in J times) ≡ length switches
           → log_in J times ≡ flatten switches → Keeps bytes (replay times) (logged switches)
       replay_logged times switches h F e w before after r l P =
           let (a, b) = (P.runnable runnable).done F (omega (arith, ap length w)) in
-          (a ∙ (λ i. record { refusal = 0; switches = e i }), b ∙ ap (sets before 0) w)
+          (a ∙ ap Ok e, b ∙ ap (sets before 0) w)
 
       -- 8
       pub judge_foreign : (log : List ℕ) → segments_in J ≤ 400 → ((times : List ℕ) → Gives J times log → ⊥) → Keeps bytes (judge log) (refused 8)

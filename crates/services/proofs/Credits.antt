@@ -1,14 +1,11 @@
 -- What is credited to the segment that ran.
-use Prim.Native.Nat.{ℕ, suc, ◌+◌, ◌-◌, ◌≤◌, ◌<◌, min}
-use native.Mathlib.Omega.{arith}
-use mathlib.Core.Path.{◌≡◌, sym}
-use mathlib.Core.List.{List}
-use lib.ListN.{length, get_or, set, length-set}
-use borrow.Author.Tests.{lt-ltb, le-ltb}
+use Rattle.std.proofs.Common.{◌≡◌, ℕ, suc, ◌+◌, ◌-◌, ◌<◌, ◌≤◌, min, List, length, get_or, set, arith, length-set, le-ltb, lt-ltb}
+use Rattle.kernel.specs.declared.accepted.Accepted.{Accepted}
+use Rattle.kernel.specs.declared.jobs.Jobs.{Jobs}
 use Rattle.kernel.specs.Rules.{JobSet}
 use Rattle.kernel.specs.Jobs.{sum}
 use Rattle.kernel.specs.Log.{place}
-use Rattle.kernel.specs.Words.{set_of, first_of, Loaded}
+use Rattle.kernel.specs.Held.{set_of, first_of}
 use Rattle.kernel.specs.Laws.Small.{has_job}
 use Rattle.kernel.specs.Laws.Sums.{sum_rises}
 use Rattle.kernel.specs.Laws.Tests.{split}
@@ -20,7 +17,13 @@ pub place_before : (J : JobSet) (i k n : ℕ) → i < n → k < J.segments i →
 unfolding sum
 place_before J i k n h q = omega (arith, sum_rises J.segments (suc i) n h)
 
-module _ (w : List ℕ) (ran : Ran) (tick : ℕ) (times : List ℕ) where
+-- the word of the segment that ran is one of 64
+pub ran_inside : (set : Accepted) (ran : Ran) → ran.segment < (set_of set.jobs).segments ran.job → first_of set.jobs ran.job + ran.segment < 64
+ran_inside set ran h =
+    let i : ran.job < (set_of set.jobs).jobs = has_job set.jobs ran.job ran.segment h in
+    omega (arith, set.loaded.few_segments, set.loaded.firsts ran.job i, place_before (set_of set.jobs) ran.job ran.segment (set_of set.jobs).jobs i h)
+
+module _ (w : Jobs) (ran : Ran) (tick : ℕ) (times : List ℕ) where
   -- the word of the segment that ran
   abbrev pub ran_at : ℕ
   ran_at = first_of w ran.job + ran.segment
@@ -35,17 +38,6 @@ module _ (w : List ℕ) (ran : Ran) (tick : ℕ) (times : List ℕ) where
   pub credit_none : (set_of w).segments ran.job ≤ ran.segment → credited w ran tick times ≡ times
   unfolding credited
   credit_none h = rw (le-ltb ran.segment ((set_of w).segments ran.job) h)
-
-  -- the word is one of 64
-  pub credit_inside : (n f : ℕ) → Loaded w → n ≡ (set_of w).segments ran.job → ran.segment < n → f ≡ first_of w ran.job → f + ran.segment < 64
-  credit_inside n f L en h ef =
-      let j : ran.job < (set_of w).jobs = has_job w ran.job ran.segment (omega arith) in
-      omega (arith, L.few_segments, L.firsts ran.job j, place_before (set_of w) ran.job ran.segment (set_of w).jobs j (omega arith))
-
-  -- as the code stores it
-  pub credit_done : (n f d v : ℕ) → n ≡ (set_of w).segments ran.job → ran.segment < n → f ≡ first_of w ran.job → d ≡ tick - ran.since
-      → v ≡ min (get_or times (f + ran.segment) 0 + d) 4294967295 → set times (f + ran.segment) v ≡ credited w ran tick times
-  credit_done n f d v en h ef ed ev = sym (rw (credit_some (omega arith), ← ef, ← ed, ← ev))
 
   pub credit_length : length (credited w ran tick times) ≡ length times
   credit_length = split ran.segment ((set_of w).segments ran.job)

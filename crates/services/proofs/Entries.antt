@@ -1,21 +1,18 @@
 -- A log of entries read off entry by entry.
-use Prim.Native.Nat.{ℕ, zero, suc, ◌+◌, ◌*◌, ◌/◌, ◌≤◌, ◌<◌}
-use native.Mathlib.Numerals.{add-one}
-use native.Mathlib.Omega.{arith}
-use mathlib.Core.Path.{◌≡◌, refl, sym, ap, ◌∙◌}
-use mathlib.Core.List.{List, [], ◌∷◌, ◌++◌}
-use lib.ListN.{length, get_or, drop, length-drop, replicate, length-replicate}
-use lib.Seq.{get_or-drop, drop-drop}
+use Rattle.std.proofs.Common.{◌≡◌, ℕ, zero, suc, ◌+◌, ◌*◌, ◌/◌, ◌<◌, ◌≤◌, List, [], ◌∷◌, ◌++◌, length, get_or, drop, replicate, sym, refl, ap, ◌∙◌, add-one, arith, length-append, length-drop, get_or-drop, drop-drop}
+use Rattle.std.proofs.Math.ListN.{length-replicate, get_or-append}
+use Rattle.std.proofs.Math.Seq.{drop-append_seam}
+use Rattle.kernel.specs.declared.jobs.Jobs.{Jobs}
 use Rattle.kernel.specs.Rules.{JobSet}
-use Rattle.kernel.specs.Words.{set_of, Loaded}
+use Rattle.kernel.specs.Held.{set_of, Loaded}
 use Rattle.kernel.specs.Laws.Times.{Entry, Reading, unread, read_on, read_all}
-use Rattle.services.specs.Told.{credited, ran_next, hearing, heard, times_told, entry_words, entries_words, TellsTimes}
+use Rattle.services.specs.Told.{Heard, credited, ran_next, hearing, heard, times_told, entry_words, entries_words, TellsTimes}
 use Rattle.services.specs.declared.told.Ran.{Ran}
 use Rattle.services.proofs.Credits.{credit_length}
 use Rattle.services.proofs.Telling.{Follows, follows_none, follows_next}
 
 -- i entries of l are read; what is still to come gives the reading of the whole
-pub record Going (w log times : List ℕ) (ran : Ran) (i : ℕ) (l : List Entry) : Type 0 where
+pub record Going (w : Jobs) (log times : List ℕ) (ran : Ran) (i : ℕ) (l : List Entry) : Type 0 where
   pub rest : List Entry
   pub reading : Reading
   pub follows : Follows w times ran reading
@@ -23,12 +20,12 @@ pub record Going (w log times : List ℕ) (ran : Ran) (i : ℕ) (l : List Entry)
   pub whole : read_all (set_of w) reading rest ≡ read_all (set_of w) (unread (set_of w)) l
 
 -- so of whatever entries the log has
-pub record Reads (w log times : List ℕ) (ran : Ran) (i : ℕ) : Type 0 where
+pub record Reads (w : Jobs) (log times : List ℕ) (ran : Ran) (i : ℕ) : Type 0 where
   pub inside : i ≤ length log / 4
   pub size : length times ≡ 64
   pub going : (l : List Entry) → log ≡ entries_words (set_of w) l → Going w log times ran i l
 
-pub reads_none : (w log times : List ℕ) (ran : Ran) → Loaded w → times ≡ replicate 64 0 → ran ≡ record { job = (set_of w).jobs; segment = 0; since = 0 } → Reads w log times ran 0
+pub reads_none : (w : Jobs) (log times : List ℕ) (ran : Ran) → Loaded w → times ≡ replicate 64 0 → ran ≡ record { job = (set_of w).jobs; segment = 0; since = 0 } → Reads w log times ran 0
 reads_none w log times ran L e r = record {
   inside = omega arith;
   size = ap length e ∙ length-replicate {A = ℕ} 64 0;
@@ -43,7 +40,7 @@ entries_more : (J : JobSet) (v : Entry) (vs : List Entry) → entries_words J (v
 unfolding entries_words
 entries_more J v vs = refl
 
-module _ (w log times : List ℕ) (L : Loaded w) (ran : Ran) (i : ℕ) (h : i < length log / 4) (l : List Entry) where
+module _ (w : Jobs) (log times : List ℕ) (L : Loaded w) (ran : Ran) (i : ℕ) (h : i < length log / 4) (l : List Entry) where
   -- words are left, so that an entry is
   some_left : drop (4 * i) log ≡ [] → ⊥
   some_left e = omega (arith, ap length e, length-drop (4 * i) log)
@@ -70,7 +67,7 @@ module _ (w log times : List ℕ) (L : Loaded w) (ran : Ran) (i : ℕ) (h : i < 
     whole = unfold read_all in z;
   }
 
-pub reads_next : (w log times more : List ℕ) (ran next : Ran) (i tick job segment : ℕ) → Loaded w → i < length log / 4 → Reads w log times ran i
+pub reads_next : (w : Jobs) (log times more : List ℕ) (ran next : Ran) (i tick job segment : ℕ) → Loaded w → i < length log / 4 → Reads w log times ran i
     → tick ≡ get_or log (4 * i + 1) 0 → job ≡ get_or log (4 * i + 2) 0 → segment ≡ get_or log (4 * i + 3) 0
     → more ≡ credited w ran tick times → next ≡ ran_next w tick job segment → Reads w log more next (i + 1)
 reads_next w log times more ran next i tick job segment L h R et ej es em en = record {
@@ -81,7 +78,7 @@ reads_next w log times more ran next i tick job segment L h R et ej es em en = r
       rw (em, en, et, ej, es) (going_next w log times L ran i h l G.rest G.reading G.follows G.to_come G.whole);
 }
 
-module _ (w log times : List ℕ) (ran : Ran) (i : ℕ) where
+module _ (w : Jobs) (log times : List ℕ) (ran : Ran) (i : ℕ) where
   -- at the end nothing is to come
   over : (l r : List Entry) (m : Reading) → length log / 4 ≤ i → i ≤ length log / 4 → Follows w times ran m → drop (4 * i) log ≡ entries_words (set_of w) r
       → read_all (set_of w) m r ≡ read_all (set_of w) (unread (set_of w)) l → Follows w times ran (read_all (set_of w) (unread (set_of w)) l)
@@ -98,25 +95,45 @@ module _ (w log times : List ℕ) (ran : Ran) (i : ℕ) where
 
 -- ---- the times read off a log, whatever its words are
 
-reads : (w log : List ℕ) → Loaded w → (i : ℕ) → i ≤ length log / 4 → Reads w log (heard w log i).times (heard w log i).ran i
+reads : (w : Jobs) (log : List ℕ) → Loaded w → (i : ℕ) → i ≤ length log / 4 → Reads w log (heard w log i).times (heard w log i).ran i
 unfolding heard
 reads w log L zero h = reads_none w log _ _ L refl refl
 reads w log L (suc i) h =
     rw (← add-one i) (reads_next w log (heard w log i).times _ (heard w log i).ran _ i _ _ _ L (omega arith) (reads w log L i (omega arith)) refl refl refl refl refl)
 
 -- as code that reads switch by switch comes to them
-pub heard_none : (w log : List ℕ) (jobs : ℕ) → jobs ≡ (set_of w).jobs
+pub heard_none : (w : Jobs) (log : List ℕ) (jobs : ℕ) → jobs ≡ (set_of w).jobs
     → heard w log 0 ≡ record { times = replicate 64 0; ran = record { job = jobs; segment = 0; since = 0 } }
 unfolding heard
 heard_none w log jobs e = rw e
 
-pub heard_more : (w log times more : List ℕ) (ran next : Ran) (i tick job segment : ℕ) → heard w log i ≡ record { times = times; ran = ran }
+pub heard_more : (w : Jobs) (log times more : List ℕ) (ran next : Ran) (i tick job segment : ℕ) → heard w log i ≡ record { times = times; ran = ran }
     → tick ≡ get_or log (4 * i + 1) 0 → job ≡ get_or log (4 * i + 2) 0 → segment ≡ get_or log (4 * i + 3) 0
     → more ≡ credited w ran tick times → next ≡ ran_next w tick job segment → heard w log (i + 1) ≡ record { times = more; ran = next }
 unfolding heard
 heard_more w log times more ran next i tick job segment h et ej es em en =
     rw (add-one i) (ap (hearing w log i) h ∙ rw (em, en, et, ej, es))
 
+-- where the switches are taken from the words that are left to read
+pub heard_next : (w : Jobs) (log times more left item rest : List ℕ) (ran next : Ran) (i : ℕ) → heard w log i ≡ record { times = times; ran = ran }
+    → left ≡ drop (4 * i) log → left ≡ item ++ rest → length item ≡ 4
+    → more ≡ credited w ran (get_or item 1 0) times → next ≡ ran_next w (get_or item 1 0) (get_or item 2 0) (get_or item 3 0)
+    → (heard w log (i + 1) ≡ record { times = more; ran = next }) × (rest ≡ drop (4 * (i + 1)) log) × (4 * (i + 1) ≤ length log)
+heard_next w log times more left item rest ran next i h d e n em en =
+    let word : (k : ℕ) → k < 4 → get_or item k 0 ≡ get_or log (4 * i + k) 0
+    = λ k q. sym (get_or-append item rest 0 k (omega arith)) ∙ ap (λ (l : List ℕ). get_or l k 0) (sym e ∙ d) ∙ get_or-drop (4 * i) log k 0 in
+    let z : 4 * (i + 1) ≡ 4 * i + 4 = omega arith in (
+      heard_more w log times more ran next i _ _ _ h (word 1 (omega arith)) (word 2 (omega arith)) (word 3 (omega arith)) em en,
+      rw z (sym (drop-append_seam item rest) ∙ ap (λ (m : ℕ). drop m (item ++ rest)) n ∙ ap (drop 4) (sym e ∙ d) ∙ drop-drop 4 (4 * i) log),
+      omega (arith, n, ap length d, ap length e, length-append item rest, length-drop (4 * i) log),
+    )
+
+pub heard_all : (w : Jobs) (log times left : List ℕ) (ran : Ran) (i : ℕ) → heard w log i ≡ record { times = times; ran = ran } → left ≡ drop (4 * i) log
+    → 4 * i ≤ length log → length left < 4 → times ≡ times_told w log
+heard_all w log times left ran i h d q r =
+    let z : length log / 4 ≡ i = omega (arith, ap length d, length-drop (4 * i) log) in
+    sym (ap (λ (x : Heard). x.times) h) ∙ ap (λ (n : ℕ). (heard w log n).times) (sym z)
+
 -- they are those that its entries tell
-pub told_tells : (w log : List ℕ) → Loaded w → TellsTimes w log (times_told w log)
+pub told_tells : (w : Jobs) (log : List ℕ) → Loaded w → TellsTimes w log (times_told w log)
 told_tells w log L = let n : ℕ = length log / 4 in reads_all w log _ _ n (omega arith) (reads w log L n (omega arith))

@@ -1,12 +1,11 @@
-pub mod Fit
+pub mod All
 pub mod Work
 pub mod Opening
-pub mod Opened
 pub mod Ran
+pub mod Refused
 pub mod Once
 pub mod Credits
 pub mod Telling
 pub mod Entries
-pub mod Alike
 pub mod Verdicts
 pub mod Grew

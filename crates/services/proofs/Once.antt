@@ -1,11 +1,6 @@
 -- A promise fixes its answer: two answers that keep it are the same.
-use Prim.Native.Nat.{ℕ, zero, suc, ◌≤◌, ◌<◌}
-use native.Mathlib.Omega.{arith}
-use native.Mathlib.Decide.{ℕ_discrete}
-use mathlib.Core.Path.{◌≡◌, refl, sym, ap, ap₂, ◌∙◌}
-use mathlib.Core.Bool.{Bool, true, false, true≢false}
-use mathlib.Core.List.{List, [], ◌∷◌}
-use lib.ListN.{length, get_or, drop}
+use Rattle.std.proofs.Common.{◌≡◌, ℕ, zero, suc, ◌<◌, ◌≤◌, List, [], ◌∷◌, length, get_or, drop, Ok, Err, Result, sym, refl, ap, ◌∙◌, ap₂, arith}
+use Rattle.std.proofs.Math.Decide.{ℕ_discrete}
 use Rattle.table.specs.Refusal.{refusal, table_of}
 use Rattle.kernel.specs.Rules.{JobSet}
 use Rattle.kernel.specs.Jobs.{sum}
@@ -21,15 +16,20 @@ use Rattle.services.specs.Times.{Fit}
 use Rattle.services.specs.Replay.{log_in, Replays, ReplayPromise}
 use Rattle.services.specs.Judge.{Gives, segments_in, Judges, JudgePromise}
 use Rattle.services.specs.Tree.{room_in, Trees, TreePromise}
-use Rattle.services.specs.declared.Replayed.{Replayed as Answer}
-use Rattle.services.specs.declared.Judged.{Judged as Verdict}
-use Rattle.services.specs.declared.Drawn.{Drawn as Drawing}
+use Rattle.walk.specs.declared.counts.Counts.{Counts}
+use Rattle.services.specs.Refusals.{refusal_number, Declines}
+use Rattle.services.specs.declared.refusal.Refusal.{Refusal}
+use Rattle.services.proofs.Refused.{one_refusal, declines_once}
 use Rattle.services.proofs.Opening.{whole_sound, late_test, in_time, runs_in_frame}
 use Rattle.services.proofs.Grew.{tree_right}
 
 -- what equals the same is the same
 pub same : {A B : Type 0} {r s x : A} {a b y : B} → (r ≡ x) × (a ≡ y) → (s ≡ x) × (b ≡ y) → (r ≡ s) × (a ≡ b)
 same p q = (p.0 ∙ sym q.0, p.1 ∙ sym q.1)
+
+-- and so are two refusals with the same number
+pub same_refused : {A B : Type 0} (n : ℕ) {r s : Result A Refusal} {a b y : B} → Declines r n × (a ≡ y) → Declines s n × (b ≡ y) → (r ≡ s) × (a ≡ b)
+same_refused n p q = (declines_once n _ _ p.0 q.0, p.1 ∙ sym q.1)
 
 -- two answers to one table were given for the same cause
 pub answered_once : (bytes : List ℕ) {D E : ℕ → Type 0} {S T X : Type 0} → ((n : ℕ) → D n → E n → X) → (S → T → X) → Answered bytes D S → Answered bytes E T → X
@@ -82,16 +82,16 @@ fit_told J times X y x =
 
 -- ---- replay
 
-pub replays_once : (J : JobSet) (times before after more : List ℕ) (r s : Answer) → Replays times before after r J → Replays times before more s J → (r ≡ s) × (after ≡ more)
+pub replays_once : (J : JobSet) (times before after more : List ℕ) (r s : Result ℕ Refusal) → Replays times before after r J → Replays times before more s J → (r ≡ s) × (after ≡ more)
 replays_once J times before after more r s A B = fit_told J times _
     (λ F. split (length before) (length (log_in J times))
-    (λ (h : length before < length (log_in J times)). same (A.small F h) (B.small F h))
+    (λ (h : length before < length (log_in J times)). same_refused 7 (A.small F h) (B.small F h))
     (λ (h : length (log_in J times) ≤ length before). same (A.done F h) (B.done F h)))
-    (λ n. same (A.unfit n) (B.unfit n))
+    (λ n. same_refused 6 (A.unfit n) (B.unfit n))
 
-pub replay_once : (bytes times before after more : List ℕ) (r s : Answer) → ReplayPromise bytes times before after r → ReplayPromise bytes times before more s
+pub replay_once : (bytes times before after more : List ℕ) (r s : Result ℕ Refusal) → ReplayPromise bytes times before after r → ReplayPromise bytes times before more s
     → (r ≡ s) × (after ≡ more)
-replay_once bytes times before after more r s = answered_once bytes (λ n. same) (replays_once (jobs_in bytes) times before after more r s)
+replay_once bytes times before after more r s = answered_once bytes (λ n. same_refused n) (replays_once (jobs_in bytes) times before after more r s)
 
 -- ---- judge
 
@@ -103,42 +103,37 @@ list_told (a ∷ l) (b ∷ m) X y x = both_told (a ≡ b) (l ≡ m) (eq_told a b
     (λ e. y (ap₂ (λ (c : ℕ) (k : List ℕ). c ∷ k) e.0 e.1))
     (λ n. x (λ e. n (ap (λ (k : List ℕ). get_or k 0 0) e, ap (drop 1) e)))
 
-bool_told : (a b : Bool) → Told (a ≡ b)
-bool_told true true X y x = y refl
-bool_told false false X y x = y refl
-bool_told true false X y x = x true≢false
-bool_told false true X y x = x (λ e. true≢false (sym e))
-
-verdict_told : (r s : Verdict) → Told (r ≡ s)
-verdict_told r s X y x = both_told _ _ (eq_told r.refusal s.refusal) (bool_told r.accepted s.accepted) X
-    (λ e. y (λ z. record { refusal = e.0 z; accepted = e.1 z }))
-    (λ n. x (λ e. n (ap (λ (v : Verdict). v.refusal) e, ap (λ (v : Verdict). v.accepted) e)))
+verdict_told : (r s : Result (Unit {0}) Refusal) → Told (r ≡ s)
+verdict_told (Ok a) (Ok b) X y x = y refl
+verdict_told (Err e) (Err f) X y x = eq_told (refusal_number e) (refusal_number f) X (λ q. y (ap Err (one_refusal e f q))) (λ n. x (λ q. n cc))
+verdict_told (Ok a) (Err f) X y x = x (λ e. cc)
+verdict_told (Err e) (Ok b) X y x = x (λ e. cc)
 
 -- were they not the same, no times could give the log, and then they are
-pub judges_once : (J : JobSet) (log before after more : List ℕ) (r s : Verdict) → Judges log before after r J → Judges log before more s J → (r ≡ s) × (after ≡ more)
+pub judges_once : (J : JobSet) (log before after more : List ℕ) (r s : Result (Unit {0}) Refusal) → Judges log before after r J → Judges log before more s J → (r ≡ s) × (after ≡ more)
 judges_once J log before after more r s A B = split (length before) (segments_in J)
-    (λ (h : length before < segments_in J). same (A.small h) (B.small h))
+    (λ (h : length before < segments_in J). same_refused 7 (A.small h) (B.small h))
     (λ (h : segments_in J ≤ length before). both_told (r ≡ s) (after ≡ more) (verdict_told r s) (list_told after more) _ (λ e. e) (λ n.
     let none : (times : List ℕ) → Gives J times log → ⊥ = λ times G. n (same (A.done h times G) (B.done h times G)) in
-    absurd (n (same (A.foreign h none) (B.foreign h none)))))
+    absurd (n (same_refused 8 (A.foreign h none) (B.foreign h none)))))
 
-pub judge_once : (bytes log before after more : List ℕ) (r s : Verdict) → JudgePromise bytes log before after r → JudgePromise bytes log before more s
+pub judge_once : (bytes log before after more : List ℕ) (r s : Result (Unit {0}) Refusal) → JudgePromise bytes log before after r → JudgePromise bytes log before more s
     → (r ≡ s) × (after ≡ more)
-judge_once bytes log before after more r s = answered_once bytes (λ n. same) (judges_once (jobs_in bytes) log before after more r s)
+judge_once bytes log before after more r s = answered_once bytes (λ n. same_refused n) (judges_once (jobs_in bytes) log before after more r s)
 
 -- ---- tree
 
 -- where every run ends in the frame there is a tree, and it decides
-pub trees_once : (J : JobSet) → Lawful J → last_end J ≤ J.frame → (before after more : List ℕ) (r s : Drawing) → Trees before after r J → Trees before more s J
+pub trees_once : (J : JobSet) → Lawful J → last_end J ≤ J.frame → (before after more : List ℕ) (r s : Result Counts Refusal) → Trees before after r J → Trees before more s J
     → (r ≡ s) × (after ≡ more)
 trees_once J L h before after more r s A B =
     let R : TreeOf J (the_tree J) = tree_right J L h in
     split (room_in before) (size (the_tree J))
-    (λ (q : room_in before < size (the_tree J)). same (A.large (the_tree J) R q) (B.large (the_tree J) R q))
+    (λ (q : room_in before < size (the_tree J)). same_refused 7 (A.large (the_tree J) R q) (B.large (the_tree J) R q))
     (λ (q : size (the_tree J) ≤ room_in before). same (A.done (the_tree J) R q) (B.done (the_tree J) R q))
 
-pub tree_once : (bytes before after more : List ℕ) (r s : Drawing) → TreePromise bytes before after r → TreePromise bytes before more s → (r ≡ s) × (after ≡ more)
-tree_once bytes before after more r s A B = answered_once bytes (λ n. same) (λ S T. S T) (record {
+pub tree_once : (bytes before after more : List ℕ) (r s : Result Counts Refusal) → TreePromise bytes before after r → TreePromise bytes before more s → (r ≡ s) × (after ≡ more)
+tree_once bytes before after more r s A B = answered_once bytes (λ n. same_refused n) (λ S T. S T) (record {
   faulty = A.faulty;
   late = A.late;
   runnable = λ R. trees_once (jobs_in bytes) (accepted_lawful (table_of bytes) (whole_sound bytes R.whole)) (runs_in_frame bytes R) before after more r s (A.runnable R);

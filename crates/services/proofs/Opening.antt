@@ -1,30 +1,27 @@
 -- The opening of a table: which refusal applies, or that none does.
-use Prim.Native.Nat.{ℕ, ◌≤◌, ◌<◌}
-use native.Mathlib.Omega.{arith}
-use mathlib.Core.Path.{◌≡◌, refl, sym, subst, ◌∙◌}
-use mathlib.Core.Logic.{◌≢◌}
-use mathlib.Core.List.{List}
-use lib.ListN.{replicate}
-use Rattle.table.specs.Refusal.{refusal, outcome_of, table_of}
-use Rattle.table.specs.declared.Outcome.{Outcome}
-use Rattle.table.proofs.Whole.{refusal_is}
-use Rattle.table.proofs.Sound.{sound_outcome}
+use Rattle.std.proofs.Common.{◌≡◌, ℕ, ◌<◌, ◌≤◌, ◌≢◌, List, IsErrAnd, Ok, Err, Result, refl, ap, subst, arith}
+use Rattle.table.specs.declared.Refused.{Refused}
+use Rattle.table.specs.declared.Table.{Table}
+use Rattle.table.specs.Refusal.{refusal, outcome_of, table_in, table_of}
 use Rattle.table.specs.Sound.{Sound}
-use Rattle.kernel.specs.Rules.{SomeRunEndsLate}
-use Rattle.kernel.specs.Words.{set_of}
+use Rattle.table.proofs.Whole.{ok_is, err_is}
+use Rattle.table.proofs.Sound.{sound_table}
+use Rattle.kernel.specs.declared.accepted.Accepted.{Accepted}
+use Rattle.kernel.specs.Rules.{JobSet, SomeRunEndsLate}
+use Rattle.kernel.specs.Held.{set_of}
 use Rattle.kernel.specs.Laws.Tests.{split}
 use Rattle.kernel.specs.Laws.Ending.{last_end, late_iff}
 use Rattle.jobset.specs.Load.{Laid}
 use Rattle.jobset.specs.Laws.Accepted.{accepted_lawful}
 use Rattle.services.specs.Open.{jobs_in, Runnable, Answered, Opens}
+use Rattle.services.specs.declared.runnable.Runnable.{Runnable as Opened}
+use Rattle.services.specs.declared.refusal.Refusal.{Refusal}
+use Rattle.services.specs.declared.refusal.Refusal.TheVariants.{Table as OfTable, Late}
 
 module _ (bytes : List ℕ) where
-  number_is : (outcome_of bytes).refusal ≡ (refusal bytes).number
-  number_is = refusal_is bytes (outcome_of bytes) refl
-
   -- a table that draws none of 1 to 4
   pub whole_sound : (refusal bytes).number ≡ 0 → Sound (table_of bytes)
-  whole_sound e = sound_outcome bytes (outcome_of bytes) refl (number_is ∙ e)
+  whole_sound = sound_table bytes
 
   -- the test of the longest times decides 5
   pub late_test : (refusal bytes).number ≡ 0 → (jobs_in bytes).frame < last_end (jobs_in bytes) → SomeRunEndsLate (jobs_in bytes)
@@ -50,27 +47,24 @@ module _ (bytes : List ℕ) where
     pub not_declined : (refusal bytes).number ≡ 0 → last_end (jobs_in bytes) ≤ (jobs_in bytes).frame → Said → Answered bytes Declined Said
     not_declined e h s = record { faulty = λ n. absurd (n e); late = λ q s. absurd (in_time e h s); runnable = λ R. s }
 
-  -- ---- as the code finds it: the outcome of reading, and the words of the job set
+  -- ---- as the code finds it: the answer of reading, and the job set
 
-  module _ (o : Outcome) (read : o ≡ outcome_of bytes) where
-    pub refusal_read : o.refusal ≡ (refusal bytes).number
-    refusal_read = refusal_is bytes o read
+  pub refused_read : (f : Refused) → Err f ≡ outcome_of bytes → (r : Result Opened Refusal) → IsErrAnd r (λ e. e ≡ OfTable f.fault) → Opens bytes r
+  refused_read f read (Err e) is = let (n, q, p) = err_is bytes f read in declined_table n (rw is q)
+  refused_read f read (Ok x) is = absurd is
 
-    pub sound_read : o.refusal ≡ 0 → Sound o.table
-    sound_read = sound_outcome bytes o read
+  module _ (t : Table) (read : Ok t ≡ outcome_of bytes) (set : Accepted) (L : Laid t set.jobs) where
+    abbrev J : JobSet
+    J = set_of set.jobs
 
-    pub declined_read : o.refusal ≢ 0 → Opens bytes (record { refusal = o.refusal; set = replicate 322 0 })
-    declined_read n = declined_table (λ e. n (refusal_read ∙ e)) (λ i. record { refusal = refusal_read i; set = replicate 322 0 })
+    whole : (refusal bytes).number ≡ 0
+    whole = (ok_is bytes t read).0
 
-    module _ (w : List ℕ) (L : Laid o.table w) (z : o.refusal ≡ 0) where
-      laid_here : Laid (table_of bytes) w
-      laid_here = subst (λ (x : Outcome). Laid x.table w) read L
+    laid_here : Laid (table_of bytes) set.jobs
+    laid_here = subst (λ (x : Table). Laid x set.jobs) (ap table_in read) L
 
-      same_set : set_of w ≡ jobs_in bytes
-      same_set = laid_here.set
+    pub late_read : J.frame < last_end J → Opens bytes (Err Late)
+    late_read h = declined_late whole (rw laid_here.set at h) refl
 
-      pub late_read : (set_of w).frame < last_end (set_of w) → Opens bytes (record { refusal = 5; set = replicate 322 0 })
-      late_read h = declined_late (sym refusal_read ∙ z) (rw same_set at h) refl
-
-      pub ready_read : last_end (set_of w) ≤ (set_of w).frame → Opens bytes (record { refusal = 0; set = w })
-      ready_read h = let q = rw same_set at h in not_declined (sym refusal_read ∙ z) q (record { done = refl; laid = laid_here; in_frame = q })
+    pub ready_read : (h : last_end J ≤ J.frame) → Opens bytes (Ok (record { set = set; in_frame = h }))
+    ready_read h = not_declined whole (rw laid_here.set at h) laid_here

@@ -1,15 +1,11 @@
 -- Reading a log word by word follows the reading of its entries.
-use Prim.Native.Nat.{ℕ, ◌+◌, ◌-◌, ◌≤◌, ◌<◌, min}
-use native.Mathlib.Omega.{arith}
-use mathlib.Core.Path.{◌≡◌, refl, sym, ap, ◌∙◌}
-use mathlib.Core.List.{List}
-use lib.ListN.{length, get_or, set, replicate, length-replicate, get_or-replicate}
-use lib.Seq.{get_or-set_same, get_or-set_other}
-use borrow.Author.Tests.{lt-ltb, le-ltb}
+use Rattle.std.proofs.Common.{◌≡◌, ℕ, ◌+◌, ◌-◌, ◌<◌, ◌≤◌, min, List, length, get_or, set, replicate, sym, refl, ap, ◌∙◌, arith, get_or-set_other, get_or-set_same, le-ltb, lt-ltb}
+use Rattle.std.proofs.Math.ListN.{length-replicate, get_or-replicate}
+use Rattle.kernel.specs.declared.jobs.Jobs.{Jobs}
 use Rattle.kernel.specs.Rules.{JobSet}
-use Rattle.kernel.specs.Jobs.{sum, clipped}
+use Rattle.kernel.specs.Jobs.{sum}
 use Rattle.kernel.specs.Log.{named, place, time_in}
-use Rattle.kernel.specs.Words.{set_of, Loaded}
+use Rattle.kernel.specs.Held.{job_at, set_of, Loaded}
 use Rattle.kernel.specs.Laws.Tests.{split}
 use Rattle.kernel.specs.Laws.Places.{put2, put2_cases}
 use Rattle.kernel.specs.Laws.Small.{has_job}
@@ -31,9 +27,9 @@ module _ (J : JobSet) where
 -- ---- where there is no job
 
 -- it is not released
-no_release : (w : List ℕ) (i : ℕ) → (set_of w).jobs ≤ i → (set_of w).release i ≡ 0
-unfolding set_of clipped
-no_release w i h = rw (le-ltb i (get_or w 1 0) h)
+no_release : (w : Jobs) (i : ℕ) → (set_of w).jobs ≤ i → (set_of w).release i ≡ 0
+unfolding set_of job_at
+no_release w i h = rw (le-ltb i w.count h)
 
 named_some : (J : JobSet) (i x : ℕ) → i < J.jobs → named J i x ≡ x
 named_some J i x h = rw (lt-ltb i J.jobs h)
@@ -43,7 +39,7 @@ named_none J i x h = rw (le-ltb i J.jobs h)
 
 -- ---- the words so far tell what the entries so far tell
 
-pub record Follows (w times : List ℕ) (ran : Ran) (m : Reading) : Type 0 where
+pub record Follows (w : Jobs) (times : List ℕ) (ran : Ran) (m : Reading) : Type 0 where
   pub size : length times ≡ 64
   pub since : ran.since ≡ m.since
   pub job : m.job < (set_of w).jobs → ran.job ≡ m.job
@@ -51,7 +47,7 @@ pub record Follows (w times : List ℕ) (ran : Ran) (m : Reading) : Type 0 where
   pub none : (set_of w).jobs ≤ m.job → (set_of w).jobs ≤ ran.job
   pub told : (i k : ℕ) → i < (set_of w).jobs → k < (set_of w).segments i → time_in (set_of w) times i k ≡ min (m.times i k) 4294967295
 
-pub follows_none : (w : List ℕ) → Loaded w → Follows w (replicate 64 0) (record { job = (set_of w).jobs; segment = 0; since = 0 }) (unread (set_of w))
+pub follows_none : (w : Jobs) → Loaded w → Follows w (replicate 64 0) (record { job = (set_of w).jobs; segment = 0; since = 0 }) (unread (set_of w))
 follows_none w L = record {
   size = length-replicate {A = ℕ} 64 0;
   since = refl;
@@ -64,7 +60,7 @@ follows_none w L = record {
       omega arith;
 }
 
-module _ (w times : List ℕ) (L : Loaded w) (ran : Ran) (m : Reading) (F : Follows w times ran m) (tick : ℕ) where
+module _ (w : Jobs) (times : List ℕ) (L : Loaded w) (ran : Ran) (m : Reading) (F : Follows w times ran m) (tick : ℕ) where
   abbrev J : JobSet
   J = set_of w
 

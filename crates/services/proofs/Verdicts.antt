@@ -1,36 +1,26 @@
 -- A log is that of a run just if the times read off it give it.
-use Prim.Native.Nat.{ℕ, zero, suc, ◌-◌, ◌≤◌, ◌<◌}
-use native.Mathlib.Omega.{arith}
-use mathlib.Core.Path.{◌≡◌, refl, sym, ap, ◌∙◌}
-use mathlib.Core.Bool.{Bool, true, false}
-use mathlib.Core.List.{List, [], ◌∷◌, ◌++◌, map}
-use lib.ListN.{length, take}
-use lib.Seq.{sets, ext_get_or, get_or-take, length-take-le}
-use Rattle.kernel.specs.Rules.{JobSet, Switch, Within}
+use Rattle.std.proofs.Common.{◌≡◌, ℕ, zero, suc, ◌-◌, ◌<◌, ◌≤◌, List, [], ◌∷◌, ◌++◌, map, length, take, drop, Ok, Err, sym, refl, ap, ◌∙◌, arith, length-take-le, get_or-take, ext_get_or}
+use Rattle.kernel.specs.Rules.{JobSet, Switch}
 use Rattle.kernel.specs.Jobs.{sum}
 use Rattle.kernel.specs.Log.{place, time_in, switch_words, log_words}
-use Rattle.kernel.specs.Words.{set_of}
+use Rattle.kernel.specs.Held.{set_of}
 use Rattle.kernel.specs.Laws.Tests.{split}
 use Rattle.kernel.specs.Laws.Range.{run_same}
 use Rattle.kernel.specs.Laws.Ending.{all_in_frame}
 use Rattle.kernel.specs.Laws.Times.{entry_of, log_of, log_tells}
-use Rattle.services.specs.Open.{InFrame}
-use Rattle.services.specs.Times.{Tells}
-use Rattle.services.specs.Replay.{log_in}
-use Rattle.services.specs.Told.{entries_words, TellsTimes}
+use Rattle.services.specs.Told.{times_told, entries_words, TellsTimes}
 use Rattle.services.specs.Judge.{Gives, segments_in, Judges, RunsTo}
+use Rattle.services.specs.declared.runnable.Runnable.{Runnable as Opened}
+use Rattle.services.specs.declared.refusal.Refusal.TheVariants.{NoRun}
 use Rattle.services.proofs.Credits.{place_before}
+use Rattle.services.proofs.Entries.{told_tells}
+use Rattle.services.proofs.Ran.{put_front}
 
 -- a log's words are those of its entries
 log_entries : (J : JobSet) (l : List Switch) → log_words J l ≡ entries_words J (map entry_of l)
 unfolding log_words entries_words
 log_entries J [] = refl
 log_entries J (s ∷ ss) = ap (λ (r : List ℕ). switch_words J s ++ r) (log_entries J ss)
-
--- the comparison with the words of the run tells whether the log is its log
-pub runs_tells : (w times log words : List ℕ) (r : Bool) → Within (set_of w) (time_in (set_of w) times) → words ≡ log_in (set_of w) times → Tells (log ≡ words) r
-    → Tells (RunsTo w times log) r
-runs_tells w times log words r W e T = record { yes = λ y. record { within = W; same = T.yes y ∙ e }; no = λ n R. T.no n (R.same ∙ sym e) }
 
 -- a segment of one of the first jobs, whose place this is
 record PlaceOf (J : JobSet) (n at : ℕ) : Type 0 where
@@ -50,18 +40,21 @@ place_of J (suc n) at h = split at (sum J.segments n)
     record { job = P.job; segment = P.segment; inside = omega (arith, P.inside); real = P.real; here = P.here })
     (λ (q : sum J.segments n ≤ at). record { job = n; segment = at - sum J.segments n; inside = omega arith; real = omega arith; here = omega arith })
 
-module _ (w log told : List ℕ) (A : InFrame w) (T : TellsTimes w log told) where
+module _ (s : Opened) (log told : List ℕ) (is : told ≡ times_told s.set.jobs log) where
   abbrev J : JobSet
-  J = set_of w
+  J = set_of s.set.jobs
+
+  T : TellsTimes s.set.jobs log told
+  T = rw is (told_tells s.set.jobs log s.set.loaded)
 
   -- the times of a run with this log are those read off
   told_right : (times : List ℕ) → Gives J times log → (i k : ℕ) → i < J.jobs → k < J.segments i → time_in J told i k ≡ time_in J times i k
   told_right times G i k h q =
       let W = G.fit.within in
-      let e = log_tells J A.loaded.lawful (time_in J times) W (all_in_frame J A.loaded.lawful A.in_frame (time_in J times) W) i k h q in
-      omega (arith, T.tells (log_of J (time_in J times)) (sym G.same ∙ log_entries J _) i k h q, e, W.high i k h q, A.loaded.small_times i k h q)
+      let e = log_tells J s.set.loaded.lawful (time_in J times) W (all_in_frame J s.set.loaded.lawful s.in_frame (time_in J times) W) i k h q in
+      omega (arith, T.tells (log_of J (time_in J times)) (sym G.same ∙ log_entries J _) i k h q, e, W.high i k h q, s.set.loaded.small_times i k h q)
 
-  pub told_runs : (times : List ℕ) → Gives J times log → RunsTo w told log
+  pub told_runs : (times : List ℕ) → Gives J times log → RunsTo s.set.jobs told log
   told_runs times G =
       let W = G.fit.within in
       record {
@@ -69,20 +62,20 @@ module _ (w log told : List ℕ) (A : InFrame w) (T : TellsTimes w log told) whe
           low = λ i k h q. omega (arith, told_right times G i k h q, W.low i k h q);
           high = λ i k h q. omega (arith, told_right times G i k h q, W.high i k h q);
         };
-        same = sym G.same ∙ ap (log_words J) (sym (run_same J A.loaded.lawful (time_in J told) (time_in J times) (told_right times G)));
+        same = sym G.same ∙ ap (log_words J) (sym (run_same J s.set.loaded.lawful (time_in J told) (time_in J times) (told_right times G)));
       }
 
   abbrev count : ℕ
   count = segments_in J
 
-  count_small : count ≤ length told
-  count_small = omega (arith, A.loaded.few_segments, T.size)
+  pub count_small : count ≤ length told
+  count_small = omega (arith, s.set.loaded.few_segments, T.size)
 
   first_same : (i k : ℕ) → i < J.jobs → k < J.segments i → time_in J (take count told) i k ≡ time_in J told i k
   first_same i k h q = get_or-take count told (place J i k) 0 (place_before J i k J.jobs h q)
 
   -- as many as there are segments
-  told_gives : RunsTo w told log → Gives J (take count told) log
+  told_gives : RunsTo s.set.jobs told log → Gives J (take count told) log
   told_gives R = record {
     fit = record {
       count = length-take-le count told count_small;
@@ -91,7 +84,7 @@ module _ (w log told : List ℕ) (A : InFrame w) (T : TellsTimes w log told) whe
         high = λ i k h q. omega (arith, first_same i k h q, R.within.high i k h q);
       };
     };
-    same = ap (log_words J) (run_same J A.loaded.lawful (time_in J (take count told)) (time_in J told) first_same) ∙ sym R.same;
+    same = ap (log_words J) (run_same J s.set.loaded.lawful (time_in J (take count told)) (time_in J told) first_same) ∙ sym R.same;
   }
 
   -- and they are the only ones
@@ -100,23 +93,20 @@ module _ (w log told : List ℕ) (A : InFrame w) (T : TellsTimes w log told) whe
       let P = place_of J J.jobs at (omega (arith, G.fit.count)) in
       rw P.here (sym (told_right times G P.job P.segment P.inside P.real) ∙ sym (first_same P.job P.segment P.inside P.real)))
 
-  -- ---- the ways a judgement can go
+  -- ---- the ways a judgement can go where there is room
 
   module _ (before : List ℕ) (room : count ≤ length before) where
-    pub judge_foreign : (RunsTo w told log → ⊥) → Judges log before before (record { refusal = 8; accepted = false }) J
+    pub judge_foreign : (RunsTo s.set.jobs told log → ⊥) → Judges log before before (Err NoRun) J
     judge_foreign n = record {
       small = λ h. absurd (omega arith);
       foreign = λ h none. (refl, refl);
       done = λ h times G. absurd (n (told_runs times G));
     }
 
-    pub judge_done : (after : List ℕ) → RunsTo w told log → after ≡ sets before 0 (take count told)
-        → Judges log before after (record { refusal = 0; accepted = true }) J
-    judge_done after R e = record {
+    pub judge_done : (front : List ℕ) (n : ℕ) → n ≡ count → RunsTo s.set.jobs told log → front ≡ take n told
+        → Judges log before (front ++ drop n before) (Ok tt) J
+    judge_done front n z R e = record {
       small = λ h. absurd (omega arith);
       foreign = λ h none. absurd (none (take count told) (told_gives R));
-      done = λ h times G. (refl, e ∙ ap (sets before 0) (sym (told_only times G)));
+      done = λ h times G. (refl, put_front before front times n (e ∙ rw z (sym (told_only times G))) (z ∙ sym G.fit.count) (omega arith));
     }
-
-pub judge_small : (J : JobSet) (log before : List ℕ) → length before < segments_in J → Judges log before before (record { refusal = 7; accepted = false }) J
-judge_small J log before h = record { small = λ q. (refl, refl); foreign = λ q. absurd (omega arith); done = λ q. absurd (omega arith) }

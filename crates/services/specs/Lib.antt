@@ -1,3 +1,4 @@
+pub mod Refusals
 pub mod Open
 pub mod Times
 pub mod Replay

@@ -1,12 +1,12 @@
 -- What every service does first: refusals 1 to 5 of a table of bytes.
-use Rattle.std.specs.Prelude.{ℕ, ◌≤◌, ◌≡◌, ◌≢◌, List, replicate}
+use Rattle.std.specs.Prelude.{ℕ, ◌≡◌, ◌≢◌, List, Result, IsOkAnd}
 use Rattle.table.specs.Refusal.{refusal, table_of}
 use Rattle.kernel.specs.Rules.{JobSet, SomeRunEndsLate}
 use Rattle.kernel.specs.Jobs.{jobs_of}
-use Rattle.kernel.specs.Words.{set_of, Loaded}
-use Rattle.kernel.specs.Laws.Ending.{last_end}
 use Rattle.jobset.specs.Load.{Laid}
-use Rattle.services.specs.declared.open.Opened.{Opened}
+use Rattle.services.specs.Refusals.{Declines}
+use Rattle.services.specs.declared.refusal.Refusal.{Refusal}
+use Rattle.services.specs.declared.runnable.Runnable.{Runnable as Opened}
 
 -- the job set of the table that the bytes say
 abbrev pub jobs_in : List ℕ → JobSet
@@ -25,18 +25,6 @@ pub record Answered (bytes : List ℕ) (Declined : ℕ → Type 0) (Said : Type 
 
 -- ---- the opening of a table
 
--- the words of its job set, in whose frame all runs end
-pub record Ready (bytes : List ℕ) (r : Opened) : Type 0 where
-  pub done : r.refusal ≡ 0
-  pub laid : Laid (table_of bytes) r.set
-  pub in_frame : last_end (jobs_in bytes) ≤ (jobs_in bytes).frame
-
-abbrev pub Opens : List ℕ → Opened → Type 0
-Opens bytes r = Answered bytes (λ n. r ≡ record { refusal = n; set = replicate 322 0 }) (Ready bytes r)
-
--- ---- the words of a table that was opened
-
--- every run ends in the frame
-pub record InFrame (w : List ℕ) : Type 0 where
-  pub loaded : Loaded w
-  pub in_frame : last_end (set_of w) ≤ (set_of w).frame
+-- what the code holds of it is its job set
+abbrev pub Opens : List ℕ → Result Opened Refusal → Type 0
+Opens bytes r = Answered bytes (Declines r) (IsOkAnd r (λ s. Laid (table_of bytes) s.set.jobs))

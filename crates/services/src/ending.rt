@@ -1,27 +1,26 @@
 // The tick at which the last run ends. It depends on releases and work alone, and the longest times decide it.
 ghost use Rattle.std.specs.Prelude.{◌≡◌, ◌<◌};
-ghost use Rattle.kernel.specs.Words.{set_of, Loaded};
+ghost use Rattle.kernel.specs.Held.{set_of};
 ghost use Rattle.kernel.specs.Laws.Clock.{done_at};
 ghost use Rattle.kernel.specs.Laws.Ending.{work, last_end};
 
-use kernel::jobs;
+use kernel::accepted::Accepted;
 
 // The ticks that job i takes at most.
-fn longest_work(set: &[u32; 322], i: usize) -> u32
-    requires { Loaded set.now × (i < (set_of set.now).jobs) }
-    ensures { result ≡ work (set_of set.now) (set_of set.now).longest i }
+#[tactic(auto, using(kernel::specs::Laws::Sums::sum_none, kernel::specs::Laws::Sums::sum_more, crate::proofs::Work::small_sum))]
+fn longest_work(set: &Accepted, i: usize) -> u32
+    requires { i < (set_of set.now.jobs).jobs }
+    ensures { result ≡ work (set_of set.now.jobs) (set_of set.now.jobs).longest i }
 {
-    let n = jobs::segments(set, i);
-    let mut total: u32 = 0;
-    let mut k: u32 = 0;
-    while k < n {
-        total = total + jobs::longest(set, i, k);
-        k += 1;
+    let mut total = 0;
+    for k in 0..set.jobs.segments(i) {
+        total += set.jobs.longest(i, k);
     }
     total
 }
 
 // When a job is done that is released at a tick and has this work; those before it are done at tick `before`.
+#[tactic(auto, using(kernel::specs::Laws::Clock::done_some, kernel::specs::Laws::Clock::done_none))]
 fn done(before: u32, release: u32, work: u32) -> u32
     requires { (before < 3000000000) × (release < 3000000000) × (work < 1000000000) }
     ensures { result ≡ done_at before release work }
@@ -29,22 +28,16 @@ fn done(before: u32, release: u32, work: u32) -> u32
     if work == 0 {
         return before;
     }
-    if before < release {
-        return release + work;
-    }
-    before + work
+    before.max(release) + work
 }
 
-pub fn last_end(set: &[u32; 322]) -> u32
-    requires { Loaded set.now }
-    ensures { result ≡ last_end (set_of set.now) }
+#[tactic(auto, using(kernel::specs::Laws::Clock::clock_start, kernel::specs::Laws::Clock::clock_more, kernel::specs::Laws::Clock::done_most, crate::proofs::Work::small_work))]
+pub fn last_end(set: &Accepted) -> u32
+    ensures { result ≡ last_end (set_of set.now.jobs) }
 {
-    let n = jobs::jobs(set);
-    let mut end: u32 = 0;
-    let mut i: usize = 0;
-    while i < n {
-        end = done(end, jobs::release(set, i), longest_work(set, i));
-        i += 1;
+    let mut end = 0;
+    for i in 0..set.jobs.jobs() {
+        end = done(end, set.jobs.release(i), longest_work(set, i));
     }
     end
 }

@@ -1,167 +1,88 @@
-// The services that stand on a table of bytes. Arbitrary bytes and numbers are answered, with a refusal's number where one applies.
+// The services that stand on a table of bytes. Arbitrary bytes and numbers are answered, with a refusal where one applies.
 #![tactic(auto)]
 
-ghost use Rattle.kernel.specs.Words.{set_of, Loaded};
-ghost use Rattle.services.specs.Open.{InFrame};
-ghost use Rattle.services.specs.Times.{Tells};
+ghost use Rattle.std.specs.Prelude.{◌↔◌, IsTrue};
+ghost use Rattle.kernel.specs.Held.{set_of};
 ghost use Rattle.services.specs.Replay.{Replays, ReplayPromise};
 ghost use Rattle.services.specs.Tree.{Trees, TreePromise};
 ghost use Rattle.services.specs.Judge.{Judges, JudgePromise, RunsTo};
 
-use walk::Found;
-
-mod copy;
 mod ending;
+mod log;
 mod open;
+mod refusal;
+mod runnable;
 mod times;
 mod told;
 
-// With a refusal every returned count is 0.
-#[derive(Clone, Copy)]
-pub struct Replayed {
-    pub refusal: u32,
-    pub switches: u32,
-}
+use kernel::accepted::Accepted;
+use log::Log;
+pub use refusal::Refusal;
+use runnable::Runnable;
+pub use walk::counts::Counts;
 
-// The log of the run with these times, one per segment in table order.
-pub fn replay(table: &[u8], times: &[u32], log: &mut [u32]) -> Replayed
+// The log of the run with these times, one per segment in table order. Answers how many switches it has.
+pub fn replay(table: &[u8], times: &[u32], log: &mut [u32]) -> Result<u32, Refusal>
     ensures { ReplayPromise table.now times.now log.old log.new result }
 {
-    let opened = open::open(table);
-    if opened.refusal != 0 {
-        return Replayed {
-            refusal: opened.refusal,
-            switches: 0,
-        };
-    }
-    let set = opened.set;
-    replay_set(&set, times, log)
-}
-
-fn replay_set(set: &[u32; 322], times: &[u32], log: &mut [u32]) -> Replayed
-    requires { Loaded set.now }
-    ensures { Replays times.now log.old log.new result (set_of set.now) }
-{
-    if !times::fit(set, times) {
-        return Replayed {
-            refusal: 6,
-            switches: 0,
-        };
-    }
-    let mut words = [0u32; 384];
-    let switches = kernel::run(set, times, &mut words);
-    if log.len() < 4 * switches {
-        return Replayed {
-            refusal: 7,
-            switches: 0,
-        };
-    }
-    copy::copy(&words, log, 4 * switches);
-    Replayed {
-        refusal: 0,
-        switches: switches as u32,
-    }
-}
-
-// Whether the log is that of a run.
-#[derive(Clone, Copy)]
-pub struct Judged {
-    pub refusal: u32,
-    pub accepted: bool,
+    open::open(table)?.replay(times, log)
 }
 
 // The times of the run whose log this is, one per segment in table order.
-pub fn judge(table: &[u8], log: &[u32], times: &mut [u32]) -> Judged
+pub fn judge(table: &[u8], log: &[u32], times: &mut [u32]) -> Result<(), Refusal>
     ensures { JudgePromise table.now log.now times.old times.new result }
 {
-    let opened = open::open(table);
-    if opened.refusal != 0 {
-        return Judged {
-            refusal: opened.refusal,
-            accepted: false,
-        };
-    }
-    let set = opened.set;
-    judge_set(&set, log, times)
+    open::open(table)?.judge(log, times)
 }
 
-fn judge_set(set: &[u32; 322], log: &[u32], times: &mut [u32]) -> Judged
-    requires { InFrame set.now }
-    ensures { Judges log.now times.old times.new result (set_of set.now) }
+// The tree of all orders, eight words a node.
+pub fn tree(table: &[u8], nodes: &mut [u32]) -> Result<Counts, Refusal>
+    ensures { TreePromise table.now nodes.old nodes.new result }
 {
-    let count = times::segments(set);
-    if times.len() < count {
-        return Judged {
-            refusal: 7,
-            accepted: false,
-        };
+    open::open(table)?.tree(nodes)
+}
+
+impl Runnable {
+    fn replay(&self, times: &[u32], log: &mut [u32]) -> Result<u32, Refusal>
+        ensures { Replays times.now log.old log.new result (set_of self.now.set.jobs) }
+    {
+        if !times::fit(&self.set, times) {
+            return Err(Refusal::Times);
+        }
+        let ran = Log::of(&self.set, times);
+        let words = ran.words();
+        if log.len() < words.len() {
+            return Err(Refusal::Room);
+        }
+        log[..words.len()].copy_from_slice(words);
+        Ok((words.len() / 4) as u32)
     }
-    let mut told = [0u32; 64];
-    told::times(set, log, &mut told);
-    if !replays_to(set, &told, log) {
-        return Judged {
-            refusal: 8,
-            accepted: false,
-        };
+
+    fn judge(&self, log: &[u32], times: &mut [u32]) -> Result<(), Refusal>
+        ensures { Judges log.now times.old times.new result (set_of self.now.set.jobs) }
+    {
+        let count = self.set.total_segments();
+        if times.len() < count {
+            return Err(Refusal::Room);
+        }
+        let told = told::times(&self.set, log);
+        if !replays_to(&self.set, &told, log) {
+            return Err(Refusal::NoRun);
+        }
+        times[..count].copy_from_slice(&told[..count]);
+        Ok(())
     }
-    copy::copy(&told, times, count);
-    Judged {
-        refusal: 0,
-        accepted: true,
+
+    fn tree(&self, nodes: &mut [u32]) -> Result<Counts, Refusal>
+        ensures { Trees nodes.old nodes.new result (set_of self.now.set.jobs) }
+    {
+        walk::tree(&self.set, nodes).ok_or(Refusal::Room)
     }
 }
 
 // The times are within their bounds, and the run with them has this log.
-fn replays_to(set: &[u32; 322], times: &[u32; 64], log: &[u32]) -> bool
-    requires { Loaded set.now }
-    ensures { Tells (RunsTo set.now times.now log.now) result }
+fn replays_to(set: &Accepted, times: &[u32], log: &[u32]) -> bool
+    ensures { IsTrue result ↔ RunsTo set.now.jobs times.now log.now }
 {
-    if !times::fit_jobs(set, times) {
-        return false;
-    }
-    let mut words = [0u32; 384];
-    let switches = kernel::run(set, times, &mut words);
-    copy::same(log, &words, 4 * switches)
-}
-
-// How many nodes and orders the tree has.
-#[derive(Clone, Copy)]
-pub struct Drawn {
-    pub refusal: u32,
-    pub nodes: u32,
-    pub orders: u32,
-}
-
-// The tree of all orders, eight words a node.
-pub fn tree(table: &[u8], nodes: &mut [u32]) -> Drawn
-    ensures { TreePromise table.now nodes.old nodes.new result }
-{
-    let opened = open::open(table);
-    if opened.refusal != 0 {
-        return Drawn {
-            refusal: opened.refusal,
-            nodes: 0,
-            orders: 0,
-        };
-    }
-    let set = opened.set;
-    tree_set(&set, nodes)
-}
-
-fn tree_set(set: &[u32; 322], nodes: &mut [u32]) -> Drawn
-    requires { InFrame set.now }
-    ensures { Trees nodes.old nodes.new result (set_of set.now) }
-{
-    match walk::tree(set, nodes) {
-        Found::Whole(count, orders) => Drawn {
-            refusal: 0,
-            nodes: count,
-            orders,
-        },
-        Found::TooLarge => Drawn {
-            refusal: 7,
-            nodes: 0,
-            orders: 0,
-        },
-    }
+    times::fit_jobs(set, times) && log == Log::of(set, times).words()
 }

@@ -1,32 +1,18 @@
-// What a service finds in a table: refusal 1 to 5, or the job set.
+// What a service finds in a table: a refusal of its bytes or of a run that ends late, or the job set.
 ghost use Rattle.services.specs.Open.{Opens};
 
 use crate::ending;
-use kernel::jobs;
+use crate::refusal::Refusal;
+use crate::runnable::Runnable;
 use table::Table;
 
-#[derive(Clone, Copy)]
-pub struct Opened {
-    pub refusal: u32,
-    pub set: [u32; 322],
-}
-
-pub fn open(bytes: &[u8]) -> Opened
+pub fn open(bytes: &[u8]) -> Result<Runnable, Refusal>
     ensures { Opens bytes.now result }
 {
-    let outcome = Table::read(bytes);
-    if outcome.refusal != 0 {
-        return Opened {
-            refusal: outcome.refusal as u32,
-            set: [0; 322],
-        };
+    let table = Table::read(bytes)?;
+    let set = jobset::load(&table);
+    if set.jobs.frame() < ending::last_end(&set) {
+        return Err(Refusal::Late);
     }
-    let set = jobset::load(outcome.table);
-    if jobs::frame(&set) < ending::last_end(&set) {
-        return Opened {
-            refusal: 5,
-            set: [0; 322],
-        };
-    }
-    Opened { refusal: 0, set }
+    Ok(Runnable { set })
 }

@@ -1,9 +1,8 @@
 // The times that a log tells: how long each segment ran until each switch.
-ghost use Rattle.std.specs.Prelude.{◌≡◌, ◌+◌, ◌-◌, min, max, replicate};
-ghost use Rattle.kernel.specs.Words.{set_of, Loaded};
-ghost use Rattle.services.specs.Told.{credited, ran_next, TellsTimes};
+ghost use Rattle.std.specs.Prelude.{◌≡◌};
+ghost use Rattle.services.specs.Told.{credited, ran_next, times_told};
 
-use kernel::jobs;
+use kernel::accepted::Accepted;
 
 // What ran last, and since when.
 #[derive(Clone, Copy)]
@@ -13,74 +12,43 @@ pub struct Ran {
     pub since: u32,
 }
 
-// A log holds arbitrary numbers: a sum beyond the largest number stays there, and no time within bounds is as large.
-fn add(x: u32, y: u32) -> u32
-    ensures { result ≡ min (x + y) 4294967295 }
+// What ran has run until this tick. A log holds arbitrary numbers: a sum beyond the largest number stays there, and no time within bounds is as large.
+#[tactic(auto, using(crate::proofs::Credits::ran_inside), unfolding(crate::specs::Told::credited))]
+fn credit(set: &Accepted, times: &mut [u32; 64], ran: Ran, tick: u32)
+    ensures { times.new ≡ credited set.now.jobs ran tick times.old }
 {
-    let sum = x as u64 + y as u64;
-    if sum < 4294967295 {
-        sum as u32
-    } else {
-        4294967295
-    }
-}
-
-fn less(x: u32, y: u32) -> u32
-    ensures { result ≡ x - y }
-{
-    if y < x { x - y } else { 0 }
-}
-
-fn larger(x: u32, y: u32) -> u32
-    ensures { result ≡ max x y }
-{
-    if x < y { y } else { x }
-}
-
-// What ran has run until this tick.
-fn credit(set: &[u32; 322], times: &mut [u32; 64], ran: Ran, tick: u32)
-    requires { Loaded set.now }
-    ensures { times.new ≡ credited set.now ran tick times.old }
-{
-    if ran.segment < jobs::segments(set, ran.job) {
-        let at = jobs::first(set, ran.job) as usize + ran.segment as usize;
-        times[at] = add(times[at], less(tick, ran.since));
+    if ran.segment < set.jobs.segments(ran.job) {
+        let at = set.jobs.first(ran.job) as usize + ran.segment as usize;
+        times[at] = times[at].saturating_add(tick.saturating_sub(ran.since));
     }
 }
 
 // What runs after a switch at this tick to a segment of a job: from then on, or once the job is released.
-fn next(set: &[u32; 322], tick: u32, job: u32, segment: u32) -> Ran
-    ensures { result ≡ ran_next set.now tick job segment }
+fn next(set: &Accepted, tick: u32, job: u32, segment: u32) -> Ran
+    ensures { result ≡ ran_next set.now.jobs tick job segment }
 {
-    let j = job as usize;
-    let release = jobs::release(set, j);
+    let job = job as usize;
+    let release = set.jobs.release(job);
     Ran {
-        job: j,
+        job,
         segment,
-        since: larger(tick, release),
+        since: tick.max(release),
     }
 }
 
-pub fn times(set: &[u32; 322], log: &[u32], times: &mut [u32; 64])
-    requires { Loaded set.now × (times.old ≡ replicate 64 0) }
-    ensures { TellsTimes set.now log.now times.new }
+pub fn times(set: &Accepted, log: &[u32]) -> [u32; 64]
+    ensures { result ≡ times_told set.now.jobs log.now }
 {
-    let n = log.len() / 4;
+    let mut times = [0; 64];
     let mut ran = Ran {
-        job: jobs::jobs(set),
+        job: set.jobs.jobs(),
         segment: 0,
         since: 0,
     };
-    let mut i: usize = 0;
-    while i < n {
-        let tick = jobs::word_at(log, 4 * i + 1);
-        credit(set, times, ran, tick);
-        ran = next(
-            set,
-            tick,
-            jobs::word_at(log, 4 * i + 2),
-            jobs::word_at(log, 4 * i + 3),
-        );
-        i += 1;
+    for switch in log.chunks_exact(4) {
+        let tick = switch[1];
+        credit(set, &mut times, ran, tick);
+        ran = next(set, tick, switch[2], switch[3]);
     }
+    times
 }

@@ -3,15 +3,26 @@
 #![tactic(auto)]
 
 ghost use Rattle.std.specs.Prelude.{◌≡◌, min};
-ghost use Rattle.vlodenka.specs.Answers.{Replays, Judges, Draws, Places};
+ghost use Rattle.vlodenka.specs.Answers.{number_of, Replays, Judges, Draws, Places};
 
+use services::Refusal;
 use table::Table;
+
+// What every function answers, as a number since C has no enum of an answer's kind.
+fn number_of<A: Copy>(answer: Result<A, Refusal>) -> u32
+    ensures { result ≡ number_of answer }
+{
+    match answer {
+        Ok(_) => 0,
+        Err(refusal) => u32::from(refusal),
+    }
+}
 
 // A table longer than any table can be may end beyond the largest number of 32 bits: then that is shown.
 fn narrow(n: usize) -> u32
     ensures { result ≡ min n 4294967295 }
 {
-    if n < 4294967295 { n as u32 } else { 4294967295 }
+    u32::try_from(n).unwrap_or(u32::MAX)
 }
 
 #[unsafe(no_mangle)]
@@ -24,16 +35,15 @@ pub extern "C" fn vlodenka_replay(
     ensures { Replays table.now times.now log.old log.new switches.new result }
 {
     let answer = services::replay(table, times, log);
-    *switches = answer.switches;
-    answer.refusal
+    *switches = answer.unwrap_or_default();
+    number_of(answer)
 }
 
 #[unsafe(no_mangle)]
 pub extern "C" fn vlodenka_judge(table: &[u8], log: &[u32], times: &mut [u32]) -> u32
     ensures { Judges table.now log.now times.old times.new result }
 {
-    let answer = services::judge(table, log, times);
-    answer.refusal
+    number_of(services::judge(table, log, times))
 }
 
 #[unsafe(no_mangle)]
@@ -46,9 +56,10 @@ pub extern "C" fn vlodenka_tree(
     ensures { Draws table.now words.old words.new nodes.new orders.new result }
 {
     let answer = services::tree(table, words);
-    *nodes = answer.nodes;
-    *orders = answer.orders;
-    answer.refusal
+    let counts = answer.unwrap_or_default();
+    *nodes = counts.nodes;
+    *orders = counts.orders;
+    number_of(answer)
 }
 
 #[unsafe(no_mangle)]

@@ -1,15 +1,16 @@
-use native.Mathlib.Omega.{arith}
-use Rattle.services.proofs.Opening.{sound_read, declined_read, late_read, ready_read}
+use Rattle.std.proofs.Common.{arith}
+use Rattle.table.proofs.Sound.{sound_outcome}
+use Rattle.services.proofs.Opening.{refused_read, late_read, ready_read}
 use Rattle.services.proofs.open.open.Goals as goal
 
-pub returns-then-outcome-ne0 : goal.returns-then-outcome-ne0
-returns-then-outcome-ne0 c = declined_read _ c.read-outcome.result c.read-outcome.ensures c.if-outcome-ne0.true
+pub returns-in_err-table : goal.returns-in_err-table
+returns-in_err-table c = refused_read _ _ c.in_err-table.ensures _ c.from_residual.ensures.1
 
 pub load-set-requires : goal.load-set-requires
-load-set-requires c = sound_read _ c.read-outcome.result c.read-outcome.ensures c.if-outcome-ne0.false
+load-set-requires c = sound_outcome _ _ c.in_ok-table.ensures
 
 pub returns-then-frame-last_end : goal.returns-then-frame-last_end
-returns-then-frame-last_end c = late_read _ c.read-outcome.result c.read-outcome.ensures c.load-set.result c.load-set.ensures c.if-outcome-ne0.false (omega (arith, c.if-frame-last_end.true, c.last_end.ensures, c.frame.ensures))
+returns-then-frame-last_end c = late_read _ _ c.in_ok-table.ensures c.load-set.result c.load-set.ensures (omega (arith, c.if-frame-last_end.true, c.frame.ensures, c.last_end.ensures))
 
 pub returns : goal.returns
-returns c = ready_read _ c.read-outcome.result c.read-outcome.ensures c.load-set.result c.load-set.ensures c.if-outcome-ne0.false (omega (arith, c.if-frame-last_end.false, c.last_end.ensures, c.frame.ensures))
+returns c = ready_read _ _ c.in_ok-table.ensures c.load-set.result c.load-set.ensures (omega (arith, c.if-frame-last_end.false, c.frame.ensures, c.last_end.ensures))
