@@ -1,34 +1,18 @@
--- The lock names as the code holds them: the places in the text where each stood first.
-use Rattle.std.specs.Prelude.{ℕ, ◌+◌, ◌≤◌, ◌<◌, ◌≡◌, cond, false, List, [], length, get_or, drop, set, ltb}
-use Rattle.draft.specs.Words.{words_of, first}
-use Rattle.draft.specs.Locks.{most_locks, names_with, held_from, too_many}
-use Rattle.draft.specs.Forms.{Says}
-use Rattle.draft.specs.declared.forms.Said.{Said}
-use Rattle.draft.specs.declared.locks.Names.{Names}
-use Rattle.draft.specs.declared.locks.Locks.{Locks}
+-- The lock names as the code holds them: a slice of the text for each.
+use Rattle.std.specs.Prelude.{ℕ, ◌≡◌, ◌<◌, length, true, false, List, map, Option, Some, None}
+use Rattle.std.specs.Borrow.{Bor}
+use Rattle.arrayvec.specs.ArrayVec.{ArrayVec}
+use Rattle.draft.specs.Locks.{most_locks, number_in, knowing, names_with, held_from, too_many}
 
--- the word at a place of the text
-abbrev pub word_at : List ℕ → ℕ → List ℕ
-word_at s at = first (words_of (drop at s))
+abbrev pub known : ArrayVec (Bor (List ℕ)) → List (List ℕ)
+known names = map (λ (name : Bor (List ℕ)). name.now) names.items
 
--- the places stand for these names
-pub record Knows (s : List ℕ) (n : Names) (names : List (List ℕ)) : Type 0 where
-  pub count : n.count ≡ length names
-  pub few : length names ≤ most_locks
-  pub room : length n.start ≡ most_locks
-  pub each : (k : ℕ) → k < length names → word_at s (get_or n.start k 0) ≡ get_or names k []
+-- the number of a name, and the names after it, where these are known before it; none where there is no room for one more
+abbrev pub NumberIs : (names after : List (List ℕ)) → List ℕ → Option ℕ → Type 0
+NumberIs names after name None = most_locks < length (knowing names name)
+NumberIs names after name (Some k) = (k ≡ number_in names name) × (k < most_locks) × (after ≡ knowing names name)
 
--- one name more, where there is room
-abbrev pub with_name : Names → ℕ → Names
-with_name n at = cond (ltb n.count most_locks) (record { count = n.count + 1; start = set n.start n.count at }) n
-
--- the locks of these words, where these names are known before them
-pub record LocksAre (s : List ℕ) (r : Locks) (names words : List (List ℕ)) : Type 0 where
-  pub full : r.full ≡ too_many names words
-  pub held : r.full ≡ false → r.held ≡ held_from names 0 words
-  pub known : r.full ≡ false → Knows s r.names (names_with names words)
-
--- a line says this, and the names known after it
-pub record SaidIs (s : List ℕ) (r : Said) (x : Says) : Type 0 where
-  pub line : r.line ≡ x.line
-  pub known : Knows s r.names x.names
+-- the locks of these words, and the names after them, where these names are known before; none where the names are too many
+abbrev pub LocksAre : (names after words : List (List ℕ)) → Option ℕ → Type 0
+LocksAre names after words None = too_many names words ≡ true
+LocksAre names after words (Some held) = (too_many names words ≡ false) × (held ≡ held_from names 0 words) × (after ≡ names_with names words)

@@ -2,10 +2,12 @@ pub mod Words
 pub mod Numbers
 pub mod Bytes
 pub mod Sequence
+pub mod Cause
 pub mod Locks
 pub mod Forms
 pub mod Known
 pub mod Text
 pub mod Packing
+pub mod LastJob
 pub mod Drafts
 pub mod Laws

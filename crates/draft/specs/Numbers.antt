@@ -1,7 +1,5 @@
 -- The numbers of a text: decimal digits only.
-use Rattle.std.specs.Prelude.{ℕ, ◌+◌, ◌*◌, ◌-◌, List, [], ◌∷◌, Bool, true, cond, ◌&&◌, leb}
-use Rattle.draft.specs.declared.text.Number.{Number}
-use Rattle.draft.specs.declared.text.Number.TheVariants.{Is, Not}
+use Rattle.std.specs.Prelude.{ℕ, ◌+◌, ◌*◌, ◌-◌, List, [], ◌∷◌, Bool, true, cond, ◌&&◌, leb, Option, Some, None}
 
 abbrev pub is_digit : ℕ → Bool
 is_digit b = leb 48 b && leb b 57
@@ -16,13 +14,13 @@ value_from v [] = v
 value_from v (x ∷ xs) = value_from (10 * v + (x - 48)) xs
 
 -- this number, where it is one and not above the limit
-abbrev pub within : ℕ → Bool → ℕ → Number
-within most digits v = cond (digits && leb v most) (Is v) Not
+abbrev pub within : ℕ → Bool → ℕ → Option ℕ
+within most digits v = cond (digits && leb v most) (Some v) None
 
-unfoldable pub number_from : ℕ → ℕ → List ℕ → Number
+unfoldable pub number_from : ℕ → ℕ → List ℕ → Option ℕ
 number_from most v w = within most (all_digits w) (value_from v w)
 
 -- the number that a word is; no number where the word is missing
-unfoldable pub number_of : ℕ → List ℕ → Number
-number_of most [] = Not
+unfoldable pub number_of : ℕ → List ℕ → Option ℕ
+number_of most [] = None
 number_of most (x ∷ xs) = number_from most 0 (x ∷ xs)

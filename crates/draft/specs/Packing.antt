@@ -1,8 +1,9 @@
 -- What packing a text answers.
-use Rattle.std.specs.Prelude.{ℕ, ◌+◌, ◌≡◌, List, [], ◌∷◌, cond, length, eqb}
+use Rattle.std.specs.Prelude.{ℕ, ◌+◌, ◌≡◌, List, [], ◌∷◌, cond, length, eqb, Result, Ok, Err}
 use Rattle.std.proofs.lemmas.List.Edits.{sets}
 use Rattle.draft.specs.Text.{Lined, Told, says_of, lined_bytes}
-use Rattle.draft.specs.declared.Packed.{Packed}
+use Rattle.draft.specs.Cause.{cause_number}
+use Rattle.draft.specs.declared.cause.Refused.{Refused}
 use Rattle.table.specs.Records.{size_of}
 use Rattle.table.specs.Refusal.{Refusal, refusal}
 
@@ -35,9 +36,7 @@ answer_to told =
 unfoldable pub pack_of : List ℕ → Answer
 pack_of s = answer_to (says_of s)
 
--- the answer is given: with a cause the caller's bytes are as they were, and else the table's stand at their start
-pub record Gives (before after : List ℕ) (r : Packed) (a : Answer) : Type 0 where
-  pub cause : r.cause ≡ a.cause
-  pub line : r.line ≡ a.line
-  pub length : r.length ≡ length a.bytes
-  pub out : after ≡ sets before 0 a.bytes
+-- the answer is given: without a cause so many bytes, the table's, stand at the start of the caller's; with one the caller's bytes are as they were
+abbrev pub Gives : (before after : List ℕ) → Result ℕ Refused → Answer → Type 0
+Gives before after (Ok n) a = (a.cause ≡ 0) × (n ≡ length a.bytes) × (after ≡ sets before 0 a.bytes)
+Gives before after (Err e) a = (cause_number e.cause ≡ a.cause) × (e.line ≡ a.line) × (after ≡ before)

@@ -1,10 +1,12 @@
 -- What a text says: the records of its table with their lines, or the cause for which it is refused and the line where that arose.
-use Rattle.std.specs.Prelude.{ℕ, ◌+◌, List, [], ◌∷◌, ◌++◌, map, Bool, true, false, cond, length, ltb, eqb}
+use Rattle.std.specs.Prelude.{ℕ, ◌+◌, List, [], ◌∷◌, ◌++◌, map, Bool, true, false, cond, length, ltb, eqb, Result, Ok, Err}
 use Rattle.draft.specs.Words.{words_of, lines_of}
 use Rattle.draft.specs.Bytes.{bytes_of}
+use Rattle.draft.specs.Cause.{cause_number}
 use Rattle.draft.specs.Forms.{Says, line_says, most_four}
+use Rattle.draft.specs.declared.cause.Cause.{Cause}
 use Rattle.draft.specs.declared.forms.Line.{Line}
-use Rattle.draft.specs.declared.forms.Line.TheVariants.{Nothing, Frame, Job, Segment, Fault}
+use Rattle.draft.specs.declared.forms.Line.TheVariants.{Nothing, Frame, Job, Segment}
 use Rattle.table.specs.declared.records.Record.{Record}
 use Rattle.table.specs.declared.records.Record.TheVariants as Table
 use Rattle.table.specs.Limits.{most_bytes}
@@ -90,14 +92,14 @@ with_line n Nothing x = x
 with_line n (Frame frame) x = with_frame n frame x
 with_line n (Job release priority) x = with_job n release priority x
 with_line n (Segment shortest longest held) x = with_segment n (Table.Segment shortest longest held) x
-with_line n (Fault cause) x = refuse cause n x
 
 -- line n is read; the lock names are those known after it
 abbrev pub reading : (n : ℕ) → List (List ℕ) → Draw → Draw
 reading n names x = record { cause = x.cause; line = n; done = x.done; last = x.last; names = names }
 
-abbrev pub said : (n : ℕ) → Says → Draw → Draw
-said n s x = with_line n s.line (reading n s.names x)
+abbrev pub said : (n : ℕ) → Result Says Cause → Draw → Draw
+said n (Ok s) x = with_line n s.line (reading n s.names x)
+said n (Err cause) x = refuse (cause_number cause) n (reading n x.names x)
 
 -- line n, by its words; nothing more after a cause
 unfoldable pub read_line : (n : ℕ) → List (List ℕ) → Draw → Draw

@@ -1,5 +1,7 @@
 -- The words of a text: a line ends with a newline, its words are separated by white space, and `#` starts a comment.
-use Rattle.std.specs.Prelude.{ℕ, suc, ◌<◌, ◌≡◌, List, [], ◌∷◌, ◌++◌, Bool, true, false, cond, not, ◌||◌, ◌&&◌, drop, eqb}
+use Rattle.std.specs.Prelude.{ℕ, suc, List, [], ◌∷◌, ◌++◌, Bool, true, false, cond, not, ◌||◌, eqb}
+use Rattle.std.specs.List.{slice_split}
+use Rattle.std.specs.Str.{bytes_eq}
 
 -- space, tab and carriage return
 abbrev pub is_white : ℕ → Bool
@@ -11,9 +13,6 @@ is_ending b = eqb b 10 || eqb b 35
 
 abbrev pub is_wordly : ℕ → Bool
 is_wordly b = not (is_white b || is_ending b)
-
-abbrev pub is_in_line : ℕ → Bool
-is_in_line b = not (eqb b 10)
 
 -- a word that is complete; nothing where it has no byte
 abbrev pub closed : List ℕ → List (List ℕ)
@@ -43,29 +42,15 @@ abbrev pub none : List (List ℕ) → Bool
 none [] = true
 none (w ∷ ws) = false
 
--- a byte put before the first of these lines
-abbrev pub onto : ℕ → List (List ℕ) → List (List ℕ)
-onto x [] = (x ∷ []) ∷ []
-onto x (l ∷ ls) = (x ∷ l) ∷ ls
-
 -- the lines of a text: one more than it has newlines
-unfoldable pub lines_of : List ℕ → List (List ℕ)
-lines_of [] = [] ∷ []
-lines_of (x ∷ xs) = cond (eqb x 10) ([] ∷ lines_of xs) (onto x (lines_of xs))
+abbrev pub lines_of : List ℕ → List (List ℕ)
+lines_of = slice_split (λ b. eqb b 10)
 
 -- two words are the same
-unfoldable pub same : List ℕ → List ℕ → Bool
-same [] [] = true
-same [] (y ∷ ys) = false
-same (x ∷ xs) [] = false
-same (x ∷ xs) (y ∷ ys) = eqb x y && same xs ys
+abbrev pub same : List ℕ → List ℕ → Bool
+same = bytes_eq
 
 -- how many bytes from the start of s on pass a test
 unfoldable pub run : (ℕ → Bool) → List ℕ → ℕ
 run test [] = 0
 run test (x ∷ xs) = cond (test x) (suc (run test xs)) 0
-
--- at `end` the first word after `at` is passed, if there is one
-pub record Passed (s : List ℕ) (at end : ℕ) : Type 0 where
-  pub rest : words_of (drop end s) ≡ others (words_of (drop at s))
-  pub further : none (words_of (drop at s)) ≡ false → at < end

@@ -1,239 +1,189 @@
 // The table that the lines so far say, as its bytes.
-ghost use Rattle.std.specs.Prelude.{◌≡◌, List, ℕ, length, get_or, set, drop};
-ghost use Rattle.draft.specs.Words.{words_of};
-ghost use Rattle.draft.specs.Text.{Draw, start, next_line, with_frame, with_job, with_segment, with_line, read_line, ended as endedDraw, draw_of};
-ghost use Rattle.draft.specs.Drafts.{Inside, Drawn, Follows, bare_in, with_cause};
-ghost use Rattle.table.specs.declared.records.Record.TheVariants.{Segment as SegmentRecord};
+ghost use Rattle.std.specs.Prelude.{◌≤◌};
+ghost use Rattle.arrayvec.specs.ArrayVec.{array_vec_len};
+ghost use Rattle.draft.specs.LastJob.{last_end};
 
+use crate::cause::{Cause, Refused};
 use crate::forms::Line;
 use crate::locks::Names;
-use crate::{bytes, forms, text};
+use crate::{bytes, forms};
+use arrayvec::ArrayVec;
 
-#[derive(Clone, Copy)]
-pub struct Draft {
-    // The cause for which the text is refused, and its line; without a cause the line read last.
-    pub cause: u32,
-    pub line: u32,
-    // How many bytes there are: 0 before the frame.
-    pub length: usize,
-    // Of the last job: the place of its mark (0 before the first), its line and how many segments it has.
-    pub job: usize,
-    pub since: u32,
-    pub count: u8,
-    pub names: Names,
+// The last job: the place of its mark, its line and how many segments it has.
+#[derive(Clone, Copy, Debug, PartialEq, Eq)]
+struct LastJob {
+    at: usize,
+    line: u32,
+    segments: u8,
 }
 
-// The line of the record whose mark stands at a place.
-pub fn noted(lines: &[u32], at: usize) -> u32
-    ensures { result ≡ get_or lines.now at 0 }
-{
-    if at < lines.len() {
-        return lines[at];
-    }
-    0
+#[derive(Drop)]
+pub struct Draft<'a> {
+    made: ArrayVec<u8, 4096>,
+    // Of each record, at the place of its mark, its line: by place, since the table's reader answers a place where it refuses.
+    lines: [u32; 4096],
+    // The line read last.
+    line: u32,
+    job: Option<LastJob>,
+    names: Names<'a>,
+    ghost inside: { last_end job ≤ array_vec_len made },
 }
 
-fn note(lines: &mut [u32], at: usize, line: u32)
-    ensures { lines.new ≡ set lines.old at line }
-{
-    if at < lines.len() {
-        lines[at] = line;
-    }
-}
+impl<'a> Draft<'a> {
+    ghost use Rattle.std.specs.Prelude.{◌≡◌, ◌+◌, ◌<◌, ◌≤◌, length, get_or, Some, None, MatchResult};
+    ghost use Rattle.draft.specs.Words.{words_of};
+    ghost use Rattle.draft.specs.Text.{next_line, with_frame, with_job, with_segment, read_line, ended, start, draw_of};
+    ghost use Rattle.draft.specs.Packing.{or_last};
+    ghost use Rattle.draft.specs.LastJob.{bare_line};
+    ghost use Rattle.draft.specs.Drafts.{Holds, Refuses, Follows, Pushed, size};
+    ghost use Rattle.table.specs.declared.records.Record.TheVariants.{Segment as SegmentRecord};
 
-// The number of the next line; the numbers end at the largest.
-fn next_line(line: u32) -> u32
-    ensures { result ≡ next_line line }
-{
-    if line < 4294967295 {
-        return line + 1;
-    }
-    line
-}
-
-impl Draft {
-    fn new() -> Draft
-        ensures { Inside result × ((s blank lines : List ℕ) → length blank ≡ 4096 → length lines ≡ 4096 → ((k : ℕ) → get_or lines k 0 ≡ 0) → Drawn s blank blank lines result start) }
+    fn new() -> Draft<'a>
+        ensures { Holds result start }
     {
         Draft {
-            cause: 0,
+            made: ArrayVec::new(),
+            lines: [0; 4096],
             line: 0,
-            length: 0,
-            job: 0,
-            since: 0,
-            count: 0,
-            names: Names::none(),
+            job: None,
+            names: Names::new(),
         }
     }
 
-    fn refused(mut self, cause: u32, line: u32) -> Draft
-        requires { Inside self }
-        ensures { Inside result × (result ≡ with_cause self cause line) }
+    // Refused at the line read last.
+    fn refused(&self, cause: Cause) -> Refused
+        ensures { result ≡ record { cause = cause; line = self.now.line } }
     {
-        self.cause = cause;
-        self.line = line;
-        self
+        Refused {
+            cause,
+            line: self.line,
+        }
     }
 
-    // The last job has no segment.
-    fn bare(self) -> bool
-        ensures { result ≡ bare_in self }
+    // A last job needs a segment.
+    fn no_bare_job(&self) -> Result<(), Refused>
+        ensures { MatchResult result (λ _. bare_line self.now.job ≡ None) (λ e. (e.cause ≡ Cause.SegmentCount) × (bare_line self.now.job ≡ Some e.line)) }
     {
-        if self.job == 0 {
-            return false;
+        match self.job {
+            Some(job) if job.segments == 0 => Err(Refused {
+                cause: Cause::SegmentCount,
+                line: job.line,
+            }),
+            _ => Ok(()),
         }
-        self.count == 0
     }
 
-    fn with_frame(mut self, made: &mut [u8], lines: &mut [u32], line: u32, frame: u32) -> Draft
-        requires { Inside self }
-        ensures { Inside result × Follows made.old lines.old made.new lines.new self result (with_frame line frame) }
+    // The bytes of one record more, where there is room.
+    fn push(&mut self, part: &[u8]) -> Result<(), Refused>
+        requires { 0 < length part.now }
+        ensures { MatchResult result (λ _. Pushed self.old part.now self.new) (λ e. (e ≡ record { cause = Cause.TooLong; line = self.old.line }) × (4096 < size self.old + length part.now)) }
     {
-        if self.length != 0 {
-            return self.refused(5, line);
+        let at = self.made.len();
+        if self.made.try_extend_from_slice(part).is_err() {
+            return Err(self.refused(Cause::TooLong));
         }
-        bytes::put_frame(made, 0, frame);
-        note(lines, 0, line);
-        self.length = 6;
-        self
+        self.lines[at] = self.line;
+        Ok(())
     }
 
-    fn with_job(
-        mut self,
-        made: &mut [u8],
-        lines: &mut [u32],
-        line: u32,
-        release: u32,
-        priority: u8,
-    ) -> Draft
-        requires { Inside self }
-        ensures { Inside result × Follows made.old lines.old made.new lines.new self result (with_job line release priority) }
+    fn with_frame(&mut self, frame: u32) -> Result<(), Refused>
+        ensures { Follows self.old self.new result (with_frame self.old.line frame) }
     {
-        let at = self.length;
-        if at == 0 {
-            return self.refused(5, line);
+        if !self.made.is_empty() {
+            return Err(self.refused(Cause::FrameMisplaced));
         }
-        if self.bare() {
-            return self.refused(7, self.since);
-        }
-        if 4096 - 8 < at {
-            return self.refused(9, line);
-        }
-        bytes::put_job(made, at, release, priority);
-        note(lines, at, line);
-        self.length = at + 8;
-        self.job = at;
-        self.since = line;
-        self.count = 0;
-        self
+        self.push(&bytes::frame(frame))
     }
 
-    fn with_segment(
-        mut self,
-        made: &mut [u8],
-        lines: &mut [u32],
-        line: u32,
-        shortest: u32,
-        longest: u32,
-        held: u16,
-    ) -> Draft
-        requires { Inside self }
-        ensures { Inside result × Follows made.old lines.old made.new lines.new self result (with_segment line (SegmentRecord shortest longest held)) }
+    fn with_job(&mut self, release: u32, priority: u8) -> Result<(), Refused>
+        ensures { Follows self.old self.new result (with_job self.old.line release priority) }
     {
-        let at = self.length;
-        let job = self.job;
-        let count = self.count;
-        if at == 0 {
-            return self.refused(5, line);
+        if self.made.is_empty() {
+            return Err(self.refused(Cause::FrameMisplaced));
         }
-        if job == 0 {
-            return self.refused(6, line);
-        }
-        if count == 255 {
-            return self.refused(7, line);
-        }
-        if 4096 - 12 < at {
-            return self.refused(9, line);
-        }
-        bytes::put_segment(made, at, shortest, longest, held);
-        bytes::put_count(made, job, count + 1);
-        note(lines, at, line);
-        self.length = at + 12;
-        self.count = count + 1;
-        self
+        self.no_bare_job()?;
+        let at = self.made.len();
+        self.push(&bytes::job(release, priority))?;
+        self.job = Some(LastJob {
+            at,
+            line: self.line,
+            segments: 0,
+        });
+        Ok(())
     }
 
-    fn with(self, made: &mut [u8], lines: &mut [u32], line: u32, what: Line) -> Draft
-        requires { Inside self }
-        ensures { Inside result × Follows made.old lines.old made.new lines.new self result (with_line line what) }
+    fn with_segment(&mut self, shortest: u32, longest: u32, held: u16) -> Result<(), Refused>
+        ensures { Follows self.old self.new result (with_segment self.old.line (SegmentRecord shortest longest held)) }
     {
-        match what {
-            Line::Nothing => self,
-            Line::Frame(frame) => self.with_frame(made, lines, line, frame),
-            Line::Job(release, priority) => self.with_job(made, lines, line, release, priority),
-            Line::Segment(shortest, longest, held) => self.with_segment(
-                made, lines, line, shortest, longest, held,
+        if self.made.is_empty() {
+            return Err(self.refused(Cause::FrameMisplaced));
+        }
+        let Some(job) = self.job else {
+            return Err(self.refused(Cause::SegmentMisplaced));
+        };
+        if job.segments == u8::MAX {
+            return Err(self.refused(Cause::SegmentCount));
+        }
+        self.push(&bytes::segment(shortest, longest, held))?;
+        let segments = job.segments + 1;
+        let count_at = job.at + 7;
+        self.made[count_at] = segments;
+        self.job = Some(LastJob { segments, ..job });
+        Ok(())
+    }
+
+    // One line more.
+    fn read(&mut self, text: &'a [u8]) -> Result<(), Refused>
+        ensures { Follows self.old self.new result (read_line (next_line self.old.line) (words_of text.now)) }
+    {
+        self.line = self.line.saturating_add(1);
+        match forms::read_line(text, &mut self.names) {
+            Ok(Line::Nothing) => Ok(()),
+            Ok(Line::Frame(frame)) => self.with_frame(frame),
+            Ok(Line::Job(release, priority)) => self.with_job(release, priority),
+            Ok(Line::Segment(shortest, longest, held)) => self.with_segment(
+                shortest, longest, held,
             ),
-            Line::Fault(cause) => self.refused(cause, line),
+            Err(cause) => Err(self.refused(cause)),
         }
-    }
-
-    // One line more, which starts at a place; nothing more after a cause.
-    fn read(
-        mut self,
-        text: &[u8],
-        made: &mut [u8],
-        lines: &mut [u32],
-        at: usize,
-        line: u32,
-    ) -> Draft
-        requires { Inside self }
-        ensures { Inside result × ((blank : List ℕ) (x : Draw) → Drawn text.now blank made.old lines.old self x → Drawn text.now blank made.new lines.new result (read_line line (words_of (drop at text.now)) x)) }
-    {
-        if self.cause != 0 {
-            return self;
-        }
-        let said = forms::line_at(text, at, self.names);
-        let names = said.names;
-        self.names = names;
-        self.line = line;
-        let what = said.line;
-        self.with(made, lines, line, what)
     }
 
     // The text ends here.
-    fn ended(self) -> Draft
-        requires { Inside self }
-        ensures { Inside result × ((s blank made lines : List ℕ) (x : Draw) → Drawn s blank made lines self x → Drawn s blank made lines result (endedDraw x)) }
+    fn end(&self) -> Result<(), Refused>
+        ensures { Follows self.now self.now result ended }
     {
-        if self.cause != 0 {
-            return self;
+        if self.made.is_empty() {
+            return Err(self.refused(Cause::Empty));
         }
-        if self.length == 0 {
-            return self.refused(10, self.line);
-        }
-        if self.bare() {
-            return self.refused(7, self.since);
-        }
-        self
+        self.no_bare_job()
     }
-}
 
-// The table that a text says.
-pub fn collect(text: &[u8], made: &mut [u8], lines: &mut [u32]) -> Draft
-    requires { (length made.old ≡ 4096) × (length lines.old ≡ 4096) × ((k : ℕ) → get_or lines.old k 0 ≡ 0) }
-    ensures { Inside result × Drawn text.now made.old made.new lines.new result (draw_of text.now) }
-{
-    let mut draft = Draft::new();
-    let mut at = 0;
-    let mut line = 1;
-    loop {
-        draft = draft.read(text, made, lines, at, line);
-        let end = text::line_end(text, at);
-        if text.len() <= end {
-            return draft.ended();
+    // The table that a text says.
+    pub fn of(text: &'a [u8]) -> Result<Draft<'a>, Refused>
+        ensures { MatchResult result (λ d. Holds d (draw_of text.now)) (λ e. Refuses e (draw_of text.now)) }
+    {
+        let mut draft = Draft::new();
+        for line in text.split(|b| *b == b'\n') {
+            draft.read(line)?;
         }
-        at = end + 1;
-        line = next_line(line);
+        draft.end()?;
+        Ok(draft)
+    }
+
+    pub fn bytes(&self) -> &[u8]
+        ensures value { result.now ≡ self.now.made.items }
+        ensures fits { length result.now ≤ 4096 }
+    {
+        self.made.as_slice()
+    }
+
+    // The line of the record whose mark stands at a place; the text's last line where no record stands there.
+    pub fn line_of(&self, place: usize) -> u32
+        ensures { result ≡ or_last (get_or self.now.lines place 0) self.now.line }
+    {
+        match self.lines.get(place) {
+            Some(line) if *line != 0 => *line,
+            _ => self.line,
+        }
     }
 }

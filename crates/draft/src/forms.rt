@@ -1,14 +1,16 @@
 // What one line of a text says.
-ghost use Rattle.std.specs.Prelude.{◌≡◌, List, ℕ, drop};
-ghost use Rattle.draft.specs.Words.{words_of};
-ghost use Rattle.draft.specs.Forms.{frame_says, priority_says, release_says, job_says, held_says, holds_says, segment_says, line_says};
-ghost use Rattle.draft.specs.Known.{Knows, SaidIs};
+ghost use Rattle.std.specs.Prelude.{◌≡◌, ◌<◌, ◌≤◌, ◌+◌, true, false, length, Some, None, MatchResult};
+ghost use Rattle.draft.specs.Words.{words_of, first, others, none, same};
+ghost use Rattle.draft.specs.Numbers.{number_of};
+ghost use Rattle.draft.specs.Locks.{most_locks};
+ghost use Rattle.draft.specs.Known.{known};
+ghost use Rattle.draft.specs.Forms.{frame_says, job_says, holds_says, segment_says, line_says, with_names};
 
+use crate::cause::Cause;
 use crate::locks::Names;
-use crate::text::Number;
 use crate::{locks, text};
 
-#[derive(Clone, Copy)]
+#[derive(Clone, Copy, Debug, PartialEq, Eq)]
 pub enum Line {
     // No word.
     Nothing,
@@ -18,160 +20,109 @@ pub enum Line {
     Job(u32, u8),
     // Shortest, longest, held locks.
     Segment(u32, u32, u16),
-    // The cause for which the line is refused.
-    Fault(u32),
 }
 
-// A line, and the lock names known after it.
-#[derive(Clone, Copy)]
-pub struct Said {
-    pub line: Line,
-    pub names: Names,
-}
-
-fn frame(text: &[u8], at: usize) -> Line
-    ensures { result ≡ frame_says (words_of (drop at text.now)) }
+// The number that is due next, and what comes after it.
+#[tactic(auto, unfolding(crate::specs::Numbers::number_of))]
+fn number(text: &[u8], most: u32) -> Result<(u32, &[u8]), Cause>
+    ensures { MatchResult result (λ r. (number_of most (first (words_of text.now)) ≡ Some r.0) × (words_of r.1.now ≡ others (words_of text.now))) (λ e. (e ≡ Cause.BadNumber) × (number_of most (first (words_of text.now)) ≡ None)) }
 {
-    let Number::Is(n) = text::number_in(text::word(text, at), 4294967295) else {
-        return Line::Fault(2);
-    };
-    if !text::at_end(text, text::past(text, at)) {
-        return Line::Fault(4);
-    }
-    Line::Frame(n)
+    let (word, rest) = text::next_word(text).ok_or(Cause::BadNumber)?;
+    let n = text::number_in(word, most).ok_or(Cause::BadNumber)?;
+    Ok((n, rest))
 }
 
-// From the priority's number on.
-fn priority(text: &[u8], at: usize, release: u32) -> Line
-    ensures { result ≡ priority_says release (words_of (drop at text.now)) }
+// What comes after the word that is due next.
+fn keyword<'a>(text: &'a [u8], key: &[u8]) -> Result<&'a [u8], Cause>
+    requires { 0 < length key.now }
+    ensures { MatchResult result (λ r. (same (first (words_of text.now)) key.now ≡ true) × (words_of r.now ≡ others (words_of text.now))) (λ e. (e ≡ Cause.BadWord) × (same (first (words_of text.now)) key.now ≡ false)) }
 {
-    let Number::Is(n) = text::number_in(text::word(text, at), 255) else {
-        return Line::Fault(2);
-    };
-    if !text::at_end(text, text::past(text, at)) {
-        return Line::Fault(4);
+    match text::next_word(text) {
+        Some((word, rest)) if word == key => Ok(rest),
+        _ => Err(Cause::BadWord),
     }
-    Line::Job(release, n as u8)
 }
 
-// From the release's number on.
-fn release(text: &[u8], at: usize) -> Line
-    ensures { result ≡ release_says (words_of (drop at text.now)) }
+// The line has no word more.
+fn end(text: &[u8]) -> Result<(), Cause>
+    ensures { MatchResult result (λ _. none (words_of text.now) ≡ true) (λ e. (e ≡ Cause.Trailing) × (none (words_of text.now) ≡ false)) }
 {
-    let Number::Is(n) = text::number_in(text::word(text, at), 4294967295) else {
-        return Line::Fault(2);
-    };
-    let a = text::past(text, at);
-    if !text::same(text::word(text, a), b"priority") {
-        return Line::Fault(3);
+    match text::next_word(text) {
+        None => Ok(()),
+        Some(_) => Err(Cause::Trailing),
     }
-    priority(text, text::past(text, a), n)
+}
+
+#[tactic(auto, unfolding(crate::specs::Forms::frame_says))]
+fn frame(text: &[u8]) -> Result<Line, Cause>
+    ensures { result ≡ frame_says (words_of text.now) }
+{
+    let (ticks, text) = number(text, u32::MAX)?;
+    end(text)?;
+    Ok(Line::Frame(ticks))
 }
 
 // From the name on.
-fn job(text: &[u8], at: usize) -> Line
-    ensures { result ≡ job_says (words_of (drop at text.now)) }
+#[tactic(auto, using(crate::specs::Laws::Digits::number_most), unfolding(crate::specs::Forms::job_says, crate::specs::Forms::release_says, crate::specs::Forms::priority_says))]
+fn job(text: &[u8]) -> Result<Line, Cause>
+    ensures { result ≡ job_says (words_of text.now) }
 {
-    if text::at_end(text, at) {
-        return Line::Fault(3);
-    }
-    let a = text::past(text, at);
-    if !text::same(text::word(text, a), b"release") {
-        return Line::Fault(3);
-    }
-    release(text, text::past(text, a))
-}
-
-// From the first lock's name on.
-fn held(text: &[u8], at: usize, known: Names, shortest: u32, longest: u32) -> Said
-    ensures { (ns : List (List ℕ)) → Knows text.now known ns → SaidIs text.now result (held_says ns shortest longest (words_of (drop at text.now))) }
-{
-    if text::at_end(text, at) {
-        return Said {
-            line: Line::Fault(3),
-            names: known,
-        };
-    }
-    let found = locks::name_locks(text, at, known);
-    if found.full {
-        return Said {
-            line: Line::Fault(8),
-            names: known,
-        };
-    }
-    let names = found.names;
-    Said {
-        line: Line::Segment(shortest, longest, found.held),
-        names,
-    }
+    let (_, text) = text::next_word(text).ok_or(Cause::BadWord)?;
+    let text = keyword(text, b"release")?;
+    let (release, text) = number(text, u32::MAX)?;
+    let text = keyword(text, b"priority")?;
+    let (priority, text) = number(text, 255)?;
+    end(text)?;
+    Ok(Line::Job(release, priority as u8))
 }
 
 // From after the longest time on.
-fn holds(text: &[u8], at: usize, known: Names, shortest: u32, longest: u32) -> Said
-    ensures { (ns : List (List ℕ)) → Knows text.now known ns → SaidIs text.now result (holds_says ns shortest longest (words_of (drop at text.now))) }
+#[tactic(auto, unfolding(crate::specs::Forms::holds_says, crate::specs::Forms::held_says))]
+fn holds<'a>(
+    text: &'a [u8],
+    names: &mut Names<'a>,
+    shortest: u32,
+    longest: u32,
+) -> Result<Line, Cause>
+    ensures { length (known names.old) ≤ most_locks → with_names result (known names.new) ≡ holds_says (known names.old) shortest longest (words_of text.now) }
 {
-    if text::at_end(text, at) {
-        return Said {
-            line: Line::Segment(shortest, longest, 0),
-            names: known,
-        };
+    if text::next_word(text).is_none() {
+        return Ok(Line::Segment(shortest, longest, 0));
     }
-    if !text::same(text::word(text, at), b"holds") {
-        return Said {
-            line: Line::Fault(3),
-            names: known,
-        };
+    let text = keyword(text, b"holds")?;
+    if text::next_word(text).is_none() {
+        return Err(Cause::BadWord);
     }
-    held(text, text::past(text, at), known, shortest, longest)
+    let held = locks::held_by(names, text).ok_or(Cause::TooManyLocks)?;
+    Ok(Line::Segment(shortest, longest, held))
 }
 
 // From the shortest time on.
-fn segment(text: &[u8], at: usize, known: Names) -> Said
-    ensures { (ns : List (List ℕ)) → Knows text.now known ns → SaidIs text.now result (segment_says ns (words_of (drop at text.now))) }
+#[tactic(auto, unfolding(crate::specs::Forms::segment_says))]
+fn segment<'a>(text: &'a [u8], names: &mut Names<'a>) -> Result<Line, Cause>
+    ensures { length (known names.old) ≤ most_locks → with_names result (known names.new) ≡ segment_says (known names.old) (words_of text.now) }
 {
-    let Number::Is(shortest) = text::number_in(text::word(text, at), 4294967295) else {
-        return Said {
-            line: Line::Fault(2),
-            names: known,
-        };
-    };
-    let a = text::past(text, at);
-    let Number::Is(longest) = text::number_in(text::word(text, a), 4294967295) else {
-        return Said {
-            line: Line::Fault(2),
-            names: known,
-        };
-    };
-    holds(text, text::past(text, a), known, shortest, longest)
+    let (shortest, text) = number(text, u32::MAX)?;
+    let (longest, text) = number(text, u32::MAX)?;
+    holds(text, names, shortest, longest)
 }
 
-// The line at a place.
-pub fn line_at(text: &[u8], at: usize, known: Names) -> Said
-    ensures { (ns : List (List ℕ)) → Knows text.now known ns → SaidIs text.now result (line_says ns (words_of (drop at text.now))) }
+// A line, which adds the lock names that it brings to those known.
+#[tactic(auto, unfolding(crate::specs::Forms::line_says))]
+pub fn read_line<'a>(text: &'a [u8], names: &mut Names<'a>) -> Result<Line, Cause>
+    ensures { length (known names.old) ≤ most_locks → with_names result (known names.new) ≡ line_says (known names.old) (words_of text.now) }
 {
-    if text::at_end(text, at) {
-        return Said {
-            line: Line::Nothing,
-            names: known,
-        };
+    let Some((word, text)) = text::next_word(text) else {
+        return Ok(Line::Nothing);
+    };
+    if word == b"frame".as_slice() {
+        return frame(text);
     }
-    if text::same(text::word(text, at), b"frame") {
-        return Said {
-            line: frame(text, text::past(text, at)),
-            names: known,
-        };
+    if word == b"job".as_slice() {
+        return job(text);
     }
-    if text::same(text::word(text, at), b"job") {
-        return Said {
-            line: job(text, text::past(text, at)),
-            names: known,
-        };
+    if word == b"segment".as_slice() {
+        return segment(text, names);
     }
-    if text::same(text::word(text, at), b"segment") {
-        return segment(text, text::past(text, at), known);
-    }
-    Said {
-        line: Line::Fault(1),
-        names: known,
-    }
+    Err(Cause::UnknownLine)
 }

@@ -1,18 +1,14 @@
-use mathlib.Core.Path.{refl}
-use Rattle.draft.specs.Laws.Packs.{zeros, pack_refused, pack_small, pack_judged, pack_whole}
+use Rattle.std.proofs.Common.{rules, refl}
+use Rattle.std.proofs.lemmas.Result.{err_from_is_err_and}
+use Rattle.draft.specs.Laws.Packs.{part_written}
+use Rattle.draft.specs.Laws.Packs.{pack_refused, pack_judged, pack_whole}
 use Rattle.draft.proofs.pack.Goals as goal
 
-pub collect-said-requires : goal.collect-said-requires
-collect-said-requires c = (refl, refl, zeros 4096)
+pub returns-in_err-draft-clause-given : goal.returns-in_err-draft-clause-given
+returns-in_err-draft-clause-given c = let p = err_from_is_err_and c.from_residual.result c.from_residual.ensures.1 in rw (p.1, p.2) (pack_refused _ _ _ c.in_err-draft.ensures)
 
-pub returns-then-said-ne0 : goal.returns-then-said-ne0
-returns-then-said-ne0 c = pack_refused _ _ _ _ _ c.collect-said.ensures.1 _ _ c.if-said-ne0.true c.refused.ensures
+pub returns-in-Err-clause-given : goal.returns-in-Err-clause-given
+returns-in-Err-clause-given c = pack_judged _ _ c.in_ok-draft.ensures c.args.out.now _ c.in-Err.refused _ c.bytes-bytes.ensures.value c.in-Err.ensures c.line_of.ensures
 
-pub shown-requires : goal.shown-requires
-shown-requires c = pack_small _ _ _ _ _ c.collect-said.ensures.1 c.if-said-ne0.false _ c.read-outcome.ensures
-
-pub returns-then-outcome-ne0 : goal.returns-then-outcome-ne0
-returns-then-outcome-ne0 c = pack_judged _ _ _ _ _ c.collect-said.ensures.1 c.if-said-ne0.false _ c.read-outcome.ensures _ _ _ _ c.if-outcome-ne0.true c.shown.ensures c.line_of-line.ensures c.refused-then-outcome-ne0.ensures
-
-pub returns : goal.returns
-returns c = pack_whole _ _ _ _ _ c.collect-said.ensures.1 c.if-said-ne0.false _ c.read-outcome.ensures _ _ c.if-outcome-ne0.false c.copy.ensures
+pub returns-clause-given : goal.returns-clause-given
+returns-clause-given c = pack_whole _ _ c.in_ok-draft.ensures c.args.out.now _ _ _ c.bytes-bytes.ensures.value c.in_default.ensures (part_written 0 _ c.args.out.now _ c.bytes-bytes.result.now refl c.copy_from_slice.ensures.after (search rules))

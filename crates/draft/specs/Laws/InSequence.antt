@@ -1,11 +1,13 @@
 -- The records that a text says stand in the table's sequence, so what is packed reads back as exactly these records.
-use Rattle.std.specs.Prelude.{ℕ, zero, suc, ◌-◌, ◌<◌, ◌≤◌, ◌≡◌, refl, Bool, true, false, cond, List, [], ◌∷◌, ◌++◌, map, length, eqb}
+use Rattle.std.specs.Prelude.{ℕ, zero, suc, ◌-◌, ◌<◌, ◌≤◌, ◌≡◌, refl, Bool, true, false, cond, List, [], ◌∷◌, ◌++◌, map, length, eqb, Result, Ok, Err}
 use Rattle.std.proofs.Common.{arith, length-append, eqb-true}
 use Rattle.std.proofs.Math.Dec.{eqb-suc-zero}
 use Rattle.std.proofs.lemmas.Bool.{eqb-false}
 use Rattle.draft.specs.Words.{words_of, lines_of}
-use Rattle.draft.specs.Forms.{line_says}
-use Rattle.draft.specs.Text.{Lined, Last, no_job, a_job, Draw, job_records, records_of, lined_bytes, refuse, drawn, empty, unless_bare, too_long, with_frame, with_job, add_segment, with_segment, with_line, reading, read_line, next_line, read_lines, ended, start, draw_of, says_of}
+use Rattle.draft.specs.Cause.{cause_number}
+use Rattle.draft.specs.Forms.{Says, line_says}
+use Rattle.draft.specs.declared.cause.Cause.{Cause}
+use Rattle.draft.specs.Text.{Lined, Last, no_job, a_job, Draw, job_records, records_of, lined_bytes, refuse, drawn, empty, unless_bare, too_long, with_frame, with_job, add_segment, with_segment, with_line, reading, said, read_line, next_line, read_lines, ended, start, draw_of, says_of}
 use Rattle.draft.specs.Packing.{pack_of}
 use Rattle.draft.specs.Sequence.{Fits, frame, job, segment, Leads}
 use Rattle.draft.specs.Laws.Runs.{never}
@@ -91,9 +93,9 @@ sound_job n r p x l h = go (empty x.done) refl
 
     inner : empty x.done ≡ false → (last : Last) → x.last ≡ last
         → Sound (unless_bare last (λ line. refuse 7 line x) (cond (too_long x (Job r p 0)) (refuse 9 n x) (drawn x (records_of x) (a_job n r p []))))
-    inner e no_job q = new (λ line a b w. (let z : ◌≡◌ {A = ℕ} 0 1 = cc in omega arith)) e (too_long x (Job r p 0))
+    inner e no_job q = new (λ line a b w. (cc)) e (too_long x (Job r p 0))
     inner e (a_job line a b []) q = sound_refused x 7 line h
-    inner e (a_job line a b (s ∷ ss)) q = new (λ line c d w. (let z : ◌≡◌ {A = ℕ} 0 1 = cc in omega arith)) e (too_long x (Job r p 0))
+    inner e (a_job line a b (s ∷ ss)) q = new (λ line c d w. (cc)) e (too_long x (Job r p 0))
 
     go : (b : Bool) → empty x.done ≡ b → Sound (cond b (refuse 5 n x) (unless_bare x.last (λ line. refuse 7 line x)
         (cond (too_long x (Job r p 0)) (refuse 9 n x) (drawn x (records_of x) (a_job n r p [])))))
@@ -128,15 +130,17 @@ sound_line n Said.Nothing x f h = h
 sound_line n (Said.Frame a) x f h = sound_frame n a x f h
 sound_line n (Said.Job r p) x f h = sound_job n r p x f h
 sound_line n (Said.Segment l k m) x f h = sound_segment n l k m x f h
-sound_line n (Said.Fault c) x f h = sound_refused x c n h
+
+sound_said : (n : ℕ) (s : Result Says Cause) (x : Draw) → SaysFit s → Sound x → Sound (said n s x)
+sound_said n (Ok s) x f h = sound_line n s.line _ f.0 (record { leads = h.leads; fits = h.fits; few = f.1 })
+sound_said n (Err cause) x f h = sound_refused (reading n x.names x) (cause_number cause) n (record { leads = h.leads; fits = h.fits; few = h.few })
 
 sound_read : (n : ℕ) (ws : List (List ℕ)) (x : Draw) → Sound x → Sound (read_line n ws x)
 unfolding read_line
 sound_read n ws x h = go (eqb x.cause 0) (line_fits x.names h.few ws)
   where
-    go : (b : Bool) → SaysFit (line_says x.names ws)
-        → Sound (cond b (with_line n (line_says x.names ws).line (reading n (line_says x.names ws).names x)) x)
-    go true f = sound_line n (line_says x.names ws).line _ f.0 (record { leads = h.leads; fits = h.fits; few = f.1 })
+    go : (b : Bool) → SaysFit (line_says x.names ws) → Sound (cond b (said n (line_says x.names ws) x) x)
+    go true f = sound_said n (line_says x.names ws) x f h
     go false f = h
 
 sound_lines : (n : ℕ) (ls : List (List ℕ)) (x : Draw) → Sound x → Sound (read_lines n ls x)
@@ -154,9 +158,9 @@ ended_leads x h = go (eqb x.cause 0) refl (empty x.done) refl
   where
     last : empty x.done ≡ false → (l : Last) → x.last ≡ l → (unless_bare l (λ line. refuse 7 line x) x).cause ≡ 0
         → Leads First (whats (records_of (unless_bare l (λ line. refuse 7 line x) x))) Next
-    last e no_job q z = all_lead x h e (λ line r p w. (let y : ◌≡◌ {A = ℕ} 0 1 = cc in omega arith))
+    last e no_job q z = all_lead x h e (λ line r p w. (cc))
     last e (a_job line r p []) q z = absurd (omega arith)
-    last e (a_job line r p (s ∷ ss)) q z = all_lead x h e (λ line a b w. (let y : ◌≡◌ {A = ℕ} 0 1 = cc in omega arith))
+    last e (a_job line r p (s ∷ ss)) q z = all_lead x h e (λ line a b w. (cc))
 
     go : (b : Bool) → eqb x.cause 0 ≡ b → (d : Bool) → empty x.done ≡ d
         → (cond b (cond d (refuse 10 x.line x) (unless_bare x.last (λ line. refuse 7 line x) x)) x).cause ≡ 0

@@ -1,5 +1,5 @@
 -- The bytes of records in the table's sequence read back as exactly these records.
-use Rattle.std.specs.Prelude.{ℕ, zero, suc, ◌+◌, ◌*◌, ◌/◌, ◌%◌, ◌<◌, ◌≤◌, ◌≡◌, refl, true, List, [], ◌∷◌, ◌++◌, length, drop}
+use Rattle.std.specs.Prelude.{ℕ, zero, suc, ◌+◌, ◌*◌, ◌/◌, ◌%◌, ◌<◌, ◌≤◌, ◌≡◌, refl, true, Some, List, [], ◌∷◌, ◌++◌, length, drop}
 use Rattle.std.proofs.Math.Nat.{div-div-eq-div-mul, div-add-mod}
 use Rattle.std.proofs.Common.{mod-eq_of_lt, arith, sym, ◌∙◌, ap, length-append, le-leb, ne_eqb}
 use Rattle.draft.specs.Bytes.{record_bytes, bytes_of}
@@ -9,7 +9,6 @@ use Rattle.table.specs.declared.records.Place.{Place}
 use Rattle.table.specs.declared.records.Place.TheVariants.{First, Next, Within}
 use Rattle.table.specs.declared.records.Record.{Record}
 use Rattle.table.specs.declared.records.Record.TheVariants.{Frame, Job, Segment}
-use Rattle.table.specs.declared.records.Answer.TheVariants.{Whole}
 
 -- a number is that of its bytes
 four_back : (n : ℕ) → n < 4294967296 → n % 256 + 256 * (n / 256 % 256) + 65536 * (n / 65536 % 256) + 16777216 * (n / 16777216 % 256) ≡ n
@@ -23,7 +22,7 @@ two_back : (n : ℕ) → n < 65536 → n % 256 + 256 * (n / 256 % 256) ≡ n
 two_back n h = omega arith
 
 -- the record stands at the start of its bytes
-record_back : (p : Place) (r : Record) (rest : List ℕ) → Stands p r → Fits r → record_at p (record_bytes r ++ rest) ≡ Whole r
+record_back : (p : Place) (r : Record) (rest : List ℕ) → Stands p r → Fits r → record_at p (record_bytes r ++ rest) ≡ Some r
 unfolding record_at marked sized record_bytes
 record_back First (Frame f) rest frame h =
     let s = record_bytes (Frame f) ++ rest in

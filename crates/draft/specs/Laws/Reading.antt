@@ -1,93 +1,85 @@
 -- A line read into a draft, and the text's end.
-use Rattle.std.specs.Prelude.{ℕ, ◌≡◌, refl, true, false, List, [], get_or}
-use Rattle.std.proofs.Common.{sym, ◌∙◌, arith}
+use Rattle.std.specs.Prelude.{ℕ, ◌≡◌, refl, List, [], get_or, Some, None, Result, Ok, Err, MatchResult}
+use Rattle.std.proofs.Common.{ap, arith}
 use Rattle.std.proofs.Math.ListN.{length}
-use borrow.Author.Tests.{eq-eqb, ne_eqb}
+use borrow.Author.Tests.{eq-eqb}
 use Rattle.draft.specs.Bytes.{bytes_of}
-use Rattle.draft.specs.Forms.{line_says}
-use Rattle.draft.specs.Text.{Draw, refuse, with_line, read_line, ended, start}
+use Rattle.draft.specs.Cause.{cause_number}
+use Rattle.draft.specs.Forms.{with_names, line_says}
+use Rattle.draft.specs.Text.{Draw, refuse, with_line, reading, read_line, ended, start}
 use Rattle.draft.specs.Packing.{line_at}
-use Rattle.draft.specs.Known.{Knows, SaidIs}
-use Rattle.draft.specs.Drafts.{Holds, Drawn, Follows, bare_in, with_cause}
-use Rattle.draft.specs.Laws.Drafting.{drawn_refused, held, not_begun, is_begun, bare_refused, bare_not}
+use Rattle.draft.specs.Known.{known}
+use Rattle.draft.specs.Drafts.{Holds, Told, size}
+use Rattle.draft.specs.LastJob.{bare_line}
+use Rattle.draft.specs.Laws.Fitting.{line_fits}
+use Rattle.draft.specs.Laws.Drafting.{not_begun, is_begun, bare_refused, bare_not}
+use Rattle.draft.specs.declared.cause.Cause.{Cause}
+use Rattle.draft.specs.declared.cause.Cause.TheVariants.{SegmentCount}
+use Rattle.draft.specs.declared.cause.Refused.{Refused}
 use Rattle.draft.specs.declared.draft.Draft.{Draft}
-use Rattle.draft.specs.declared.locks.Names.{Names}
-use Rattle.draft.specs.declared.forms.Said.{Said}
+use Rattle.draft.specs.declared.forms.Line.{Line}
 
 -- the draft of no line
-pub drawn_start : (s blank lines : List ℕ) (names : Names) → Knows s names [] → length blank ≡ 4096 → length lines ≡ 4096 → ((k : ℕ) → get_or lines k 0 ≡ 0)
-    → Drawn s blank blank lines (record { cause = 0; line = 0; length = 0; job = 0; since = 0; count = 0; names = names }) start
+pub holds_start : (d : Draft) → d.made.items ≡ [] → length d.lines ≡ 4096 → ((k : ℕ) → get_or d.lines k 0 ≡ 0) → d.line ≡ 0 → d.job ≡ None → known d.names ≡ [] → Holds d start
 unfolding line_at bytes_of
-drawn_start s blank lines names k b l z = record {
+holds_start d bytes lines_room zeros line job names = record {
   cause = refl;
-  line = refl;
-  holds = λ e. record { room = b; lines_room = l; bytes = refl; noted = z; length = refl; fits = omega arith; begun = λ q. refl; last = refl; names = k };
+  line = line;
+  bytes = bytes;
+  lines_room = lines_room;
+  noted = zeros;
+  begun = λ q. refl;
+  last = rw job tt;
+  names = names;
+  few = omega arith;
 }
 
--- a draft that starts to read line n, and the names known after it
-abbrev pub turned : Draft → ℕ → Names → Draft
-turned d n names = record { cause = d.cause; line = n; length = d.length; job = d.job; since = d.since; count = d.count; names = names }
+-- a draft that starts to read line n
+pub record Turned (d after : Draft) (n : ℕ) : Type 0 where
+  pub made : after.made ≡ d.made
+  pub lines : after.lines ≡ d.lines
+  pub line : after.line ≡ n
+  pub job : after.job ≡ d.job
 
-module _ (s blank made lines : List ℕ) (d : Draft) (x : Draw) (h : Drawn s blank made lines d x) where
-  -- after a cause nothing more is read
-  pub read_over : (n : ℕ) (ws : List (List ℕ)) → (d.cause ≡ 0 → ⊥) → Drawn s blank made lines d (read_line n ws x)
-  unfolding read_line
-  read_over n ws e = rw (ne_eqb x.cause 0 (λ q. e (h.cause ∙ q))) h
-
-  pub ended_over : (d.cause ≡ 0 → ⊥) → Drawn s blank made lines d (ended x)
-  unfolding ended
-  ended_over e = rw (ne_eqb x.cause 0 (λ q. e (h.cause ∙ q))) h
-
-  module _ (c : d.cause ≡ 0) where
-    none : x.cause ≡ 0
-    none = sym h.cause ∙ c
-
-    pub read_line_lem : (made' lines' : List ℕ) (r : Draft) (n : ℕ) (ws : List (List ℕ)) (said : Said) → ((ns : List (List ℕ)) → Knows s d.names ns → SaidIs s said (line_says ns ws))
-        → Follows made lines made' lines' (turned d n said.names) r (with_line n said.line) → Drawn s blank made' lines' r (read_line n ws x)
+module _ (d : Draft) (x : Draw) (h : Holds d x) where
+  -- line n says this, and these names are known after it
+  module _ (n : ℕ) (ws : List (List ℕ)) (after : List (List ℕ)) where
+    pub reads_line : (line : Line) → with_names (Ok line) after ≡ line_says (known d.names) ws → read_line n ws x ≡ with_line n line (reading n after x)
     unfolding read_line
-    read_line_lem made' lines' r n ws said f g = rw (eq-eqb x.cause 0 none, ← is.line) (g s blank _ none (record {
-      cause = h.cause;
-      line = refl;
-      holds = λ e. record {
-        room = old.room;
-        lines_room = old.lines_room;
-        bytes = old.bytes;
-        noted = old.noted;
-        length = old.length;
-        fits = old.fits;
-        begun = old.begun;
-        last = old.last;
-        names = is.known;
-      };
-    }))
-      where
-        old : Holds s blank made lines d x
-        old = held s blank made lines d x none h
+    reads_line line e = rw (eq-eqb x.cause 0 h.cause, ← h.names, ← e)
 
-        is : SaidIs s said (line_says x.names ws)
-        is = f x.names old.names
+    pub reads_fault : (cause : Cause) → with_names (Err cause) after ≡ line_says (known d.names) ws → read_line n ws x ≡ refuse (cause_number cause) n (reading n x.names x)
+    unfolding read_line
+    reads_fault cause e = rw (eq-eqb x.cause 0 h.cause, ← h.names, ← e)
 
-    -- the text ends
-    pub ended_none : d.length ≡ 0 → Drawn s blank made lines (with_cause d 10 d.line) (ended x)
-    unfolding ended
-    ended_none e = rw (eq-eqb x.cause 0 none, (not_begun s blank made lines d x none h e).0, h.line) (drawn_refused s blank made lines d x none h 10 x.line)
+  pub holds_reading : (after : Draft) (n : ℕ) (ws : List (List ℕ)) (line : Line) → with_names (Ok line) (known after.names) ≡ line_says (known d.names) ws → Turned d after n
+      → Holds after (reading n (known after.names) x)
+  holds_reading after n ws line e t = record {
+    cause = h.cause;
+    line = t.line;
+    bytes = rw t.made h.bytes;
+    lines_room = rw t.lines h.lines_room;
+    noted = λ k. rw t.lines (h.noted k);
+    begun = h.begun;
+    last = rw t.job h.last;
+    names = refl;
+    few = (rw (← e) at (line_fits (known d.names) (rw h.names h.few) ws)).1;
+  }
 
-    pub ended_bare : (d.length ≡ 0 → ⊥) → bare_in d ≡ true → Drawn s blank made lines (with_cause d 7 d.since) (ended x)
-    unfolding ended
-    ended_bare e b =
-        rw (
-          eq-eqb x.cause 0 none,
-          is_begun s blank made lines d x none h e,
-          bare_refused d.job d.since d.count x.done x.last (λ line. refuse 7 line x) x (held s blank made lines d x none h).last b,
-        )
-        (drawn_refused s blank made lines d x none h 7 d.since)
+  -- the text ends
+  pub ended_none : size d ≡ 0 → ended x ≡ refuse 10 x.line x
+  unfolding ended
+  ended_none e = rw (eq-eqb x.cause 0 h.cause, (not_begun d x h 0 e).0)
 
-    pub ended_whole : (d.length ≡ 0 → ⊥) → bare_in d ≡ false → Drawn s blank made lines d (ended x)
-    unfolding ended
-    ended_whole e b =
-        let begun = is_begun s blank made lines d x none h e in
-        rw (
-          eq-eqb x.cause 0 none,
-          begun,
-          bare_not d.job d.since d.count x.done x.last (λ line. refuse 7 line x) x (held s blank made lines d x none h).last begun b,
-        ) h
+  pub ended_bare : (line : ℕ) → (size d ≡ 0 → ⊥) → bare_line d.job ≡ Some line → ended x ≡ refuse 7 line x
+  unfolding ended
+  ended_bare line e b = rw (eq-eqb x.cause 0 h.cause, is_begun d x h 0 e, bare_refused d.job x.done x.last (λ line. refuse 7 line x) x line h.last b)
+
+  pub ended_whole : (size d ≡ 0 → ⊥) → bare_line d.job ≡ None → ended x ≡ x
+  unfolding ended
+  ended_whole e b = rw (eq-eqb x.cause 0 h.cause, is_begun d x h 0 e, bare_not d.job x.done x.last (λ line. refuse 7 line x) x h.last b)
+
+  pub ended_told : (size d ≡ 0 → ⊥) → (result : Result (Unit {0}) Refused)
+      → MatchResult result (λ _. bare_line d.job ≡ None) (λ e. (e.cause ≡ SegmentCount) × (bare_line d.job ≡ Some e.line)) → Told d result (ended x)
+  ended_told e (Ok u) b = rw (ended_whole e b) h
+  ended_told e (Err r) b = rw (ended_bare r.line e b.1) (ap cause_number b.0, refl)

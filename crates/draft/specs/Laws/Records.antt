@@ -1,13 +1,11 @@
 -- Bytes and lines of the records of a draft.
-use Rattle.std.specs.Prelude.{ℕ, zero, suc, ◌+◌, ◌<◌, ◌≤◌, ◌≡◌, refl, Bool, true, false, List, [], ◌∷◌, ◌++◌, length, get_or, set, drop, eqb}
-use Rattle.std.proofs.Common.{arith, sym, ◌∙◌, ap, append_assoc, append-nil, length-append, length-set, get_or-set_same, get_or-set_other, ne_eqb, eqb-true}
-use Rattle.std.proofs.lemmas.List.Edits.{sets, sets-eq}
-use Rattle.std.proofs.lemmas.List.{set-append_left}
+use Rattle.std.specs.Prelude.{ℕ, zero, suc, ◌+◌, ◌<◌, ◌≤◌, ◌≡◌, refl, Bool, true, false, List, [], ◌∷◌, ◌++◌, length, get_or, set, eqb}
+use Rattle.std.proofs.Common.{drop_of_length-le, take_all, arith, sym, ◌∙◌, ap, append_assoc, append-nil, length-append, length-set, get_or-set_same, get_or-set_other, ne_eqb, eqb-true}
 use Rattle.std.proofs.lemmas.Bool.{eqb-false}
+use Rattle.std.specs.List.{refill}
 use Rattle.draft.specs.Bytes.{record_bytes, bytes_of}
 use Rattle.draft.specs.Text.{Lined, lined_bytes}
 use Rattle.draft.specs.Packing.{line_at}
-use Rattle.draft.specs.Laws.Stores.{then_stores}
 use Rattle.draft.specs.Laws.ReadBack.{record_size, size_pos}
 use Rattle.table.specs.Records.{size_of}
 use Rattle.table.specs.declared.records.Record.TheVariants.{Job}
@@ -21,12 +19,6 @@ bytes_append (x ∷ xs) ys = rw (bytes_append xs ys) (sym (append_assoc (record_
 pub bytes_one : (r : Lined) → lined_bytes (r ∷ []) ≡ record_bytes r.what
 unfolding bytes_of
 bytes_one r = append-nil (record_bytes r.what)
-
-pub size_append : (xs ys : List Lined) → length (lined_bytes (xs ++ ys)) ≡ length (lined_bytes xs) + length (lined_bytes ys)
-size_append xs ys = ap length (bytes_append xs ys) ∙ length-append (lined_bytes xs) (lined_bytes ys)
-
-pub size_one : (r : Lined) → length (lined_bytes (r ∷ [])) ≡ size_of r.what
-size_one r = ap length (bytes_one r) ∙ record_size r.what
 
 size_cons : (x : Lined) (xs : List Lined) → length (lined_bytes (x ∷ xs)) ≡ size_of x.what + length (lined_bytes xs)
 unfolding bytes_of
@@ -74,31 +66,29 @@ unfolding line_at
 line_counted k done ss line release priority m n =
     line_append 0 (length (lined_bytes done)) k done _ 0 (omega arith) ∙ sym (line_append 0 (length (lined_bytes done)) k done _ 0 (omega arith))
 
--- ---- a byte stored among those already written
-
-store_inside : (blank xs : List ℕ) (i v : ℕ) → length xs ≤ length blank → i < length xs → set (sets blank 0 xs) i v ≡ sets blank 0 (set xs i v)
-store_inside blank xs i v h l =
-    let h1 : 0 + length xs ≤ length blank = omega arith in
-    let h2 : 0 + length (set xs i v) ≤ length blank = omega (arith, length-set xs i v) in
-    rw (sets-eq xs blank 0 h1, sets-eq (set xs i v) blank 0 h2, length-set xs i v) (set-append_left xs (drop (0 + length xs) blank) i v l)
+-- ---- a byte stored
 
 store_after : (xs ys : List ℕ) (i j v : ℕ) → j ≡ length xs + i → set (xs ++ ys) j v ≡ xs ++ set ys i v
 store_after [] ys i j v e = let h : j ≡ i = omega arith in rw h
 store_after (x ∷ xs) ys i zero v e = absurd (omega arith)
 store_after (x ∷ xs) ys i (suc j) v e = ap (λ (l : List ℕ). x ∷ l) (store_after xs ys i j v (omega arith))
 
+-- one byte stored in bytes that were lent whole
+pub store_lent : (xs ys : List ℕ) (i v : ℕ) → ys ≡ xs → refill (length xs) xs (set ys i v) ≡ set xs i v
+store_lent xs ys i v e =
+    let l : length (set xs i v) ≡ length xs = length-set xs i v in
+    let over : length xs ≤ length xs = omega arith in
+    rw (e, l, drop_of_length-le xs over, append-nil (set xs i v)) (take_all (length xs) (set xs i v) (omega arith))
+
 -- a job's bytes, with another count
 recount : (release priority m n : ℕ) (rest : List ℕ) → set (record_bytes (Job release priority m) ++ rest) 7 n ≡ record_bytes (Job release priority n) ++ rest
 unfolding record_bytes
 recount release priority m n rest = refl
 
--- ---- a draft's bytes with one record more
+-- ---- one record more
 
-pub bytes_more : (blank made made' : List ℕ) (rs : List Lined) (r : Lined) (at : ℕ) → made ≡ sets blank 0 (lined_bytes rs) → at ≡ length (lined_bytes rs)
-    → made' ≡ sets made at (record_bytes r.what) → made' ≡ sets blank 0 (lined_bytes (rs ++ r ∷ []))
-bytes_more blank made made' rs r at e l f =
-    then_stores blank made made' (lined_bytes rs) (record_bytes r.what) 0 at (omega (arith, l)) e f
-    ∙ ap (sets blank 0) (sym (bytes_append rs (r ∷ []) ∙ ap (λ (b : List ℕ). lined_bytes rs ++ b) (bytes_one r)))
+pub bytes_more : (rs : List Lined) (r : Lined) → lined_bytes (rs ++ r ∷ []) ≡ lined_bytes rs ++ record_bytes r.what
+bytes_more rs r = bytes_append rs (r ∷ []) ∙ ap (λ (b : List ℕ). lined_bytes rs ++ b) (bytes_one r)
 
 -- a job's bytes among others
 job_bytes : (done ss : List Lined) (line release priority n : ℕ)
@@ -107,21 +97,9 @@ unfolding bytes_of
 job_bytes done ss line release priority n = bytes_append done (record { line = line; what = Job release priority n } ∷ ss)
 
 -- the count of a job stored among the bytes, the job's at `job`
-pub bytes_counted : (blank made : List ℕ) (done ss : List Lined) (line release priority m n job : ℕ)
-    → length (lined_bytes (done ++ record { line = line; what = Job release priority m } ∷ ss)) ≤ length blank → job ≡ length (lined_bytes done)
-    → made ≡ sets blank 0 (lined_bytes (done ++ record { line = line; what = Job release priority m } ∷ ss))
-    → set made (job + 7) n ≡ sets blank 0 (lined_bytes (done ++ record { line = line; what = Job release priority n } ∷ ss))
-bytes_counted blank made done ss line release priority m n job l e f =
-    let B = record_bytes (Job release priority m) ++ lined_bytes ss in
-    let here : length (lined_bytes done ++ B) ≡ length (lined_bytes done) + length B = length-append (lined_bytes done) B in
-    let size : length B ≡ 8 + length (lined_bytes ss) = length-append (record_bytes (Job release priority m)) (lined_bytes ss) ∙ rw (record_size (Job release priority m)) in
-    let fits : length (lined_bytes done ++ B) ≤ length blank = rw (← job_bytes done ss line release priority m) l in
-    rw (f, job_bytes done ss line release priority m, job_bytes done ss line release priority n)
-    (store_inside blank (lined_bytes done ++ B) (job + 7) n fits (omega (arith, here, size, e))
-    ∙ ap (sets blank 0) (store_after (lined_bytes done) B 7 (job + 7) n (omega (arith, e)) ∙ ap (λ (b : List ℕ). lined_bytes done ++ b) (recount release priority m n (lined_bytes ss))))
-
--- its size does not depend on the count
-pub size_counted : (done ss : List Lined) (line release priority m n : ℕ)
-    → length (lined_bytes (done ++ record { line = line; what = Job release priority m } ∷ ss)) ≡ length (lined_bytes (done ++ record { line = line; what = Job release priority n } ∷ ss))
-size_counted done ss line release priority m n =
-    size_append done _ ∙ rw (size_cons (record { line = line; what = Job release priority m }) ss) (sym (size_append done _ ∙ rw (size_cons (record { line = line; what = Job release priority n }) ss)))
+pub bytes_counted : (done ss : List Lined) (line release priority m n job : ℕ) → job ≡ length (lined_bytes done)
+    → set (lined_bytes (done ++ record { line = line; what = Job release priority m } ∷ ss)) (job + 7) n ≡ lined_bytes (done ++ record { line = line; what = Job release priority n } ∷ ss)
+bytes_counted done ss line release priority m n job e =
+    rw (job_bytes done ss line release priority m, job_bytes done ss line release priority n)
+    (store_after (lined_bytes done) (record_bytes (Job release priority m) ++ lined_bytes ss) 7 (job + 7) n (omega (arith, e))
+    ∙ ap (λ (b : List ℕ). lined_bytes done ++ b) (recount release priority m n (lined_bytes ss)))

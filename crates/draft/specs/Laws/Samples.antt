@@ -1,6 +1,6 @@
 -- A text and its table, computed from the definitions: two jobs, two locks, a comment and a carriage return.
 use Rattle.std.specs.Prelude.{ℕ, ◌≡◌, refl, List, [], ◌∷◌, ◌++◌}
-use Rattle.draft.specs.Words.{words_from, lines_of, same}
+use Rattle.draft.specs.Words.{words_from}
 use Rattle.draft.specs.Numbers.{all_digits, value_from, number_from, number_of}
 use Rattle.draft.specs.Bytes.{record_bytes, bytes_of}
 use Rattle.draft.specs.Locks.{number_in, names_with, held_from}
@@ -45,20 +45,20 @@ table =
     ∷ 0x4a ∷ 0x42 ∷ 4 ∷ 0 ∷ 0 ∷ 0 ∷ 5 ∷ 1 ∷ 0x53 ∷ 0x47 ∷ 2 ∷ 0 ∷ 0 ∷ 0 ∷ 2 ∷ 0 ∷ 0 ∷ 0 ∷ 2 ∷ 0 ∷ []
 
 packed_so : pack_of (comment ++ frame ++ first_job ++ first_segment ++ second_job ++ second_segment) ≡ record { cause = 0; line = 0; bytes = table }
-unfolding comment frame first_job first_segment second_job second_segment table pack_of says_of draw_of lines_of read_lines read_line line_says words_from same frame_says job_says
+unfolding comment frame first_job first_segment second_job second_segment table pack_of says_of draw_of read_lines read_line line_says words_from frame_says job_says
     release_says priority_says segment_says holds_says held_says names_with number_in held_from number_of number_from all_digits value_from with_line with_frame with_job with_segment ended
     bytes_of record_bytes refusal refusal_in reading_of read_from goes_on ahead record_at marked sized failing jobs_from
 packed_so = refl
 
 -- the jobs in the other order: the second is released earlier than the first, on line 5
 refused_so : pack_of (comment ++ frame ++ second_job ++ second_segment ++ first_job ++ first_segment) ≡ record { cause = 23; line = 5; bytes = [] }
-unfolding comment frame first_job first_segment second_job second_segment pack_of says_of draw_of lines_of read_lines read_line line_says words_from same frame_says job_says
+unfolding comment frame first_job first_segment second_job second_segment pack_of says_of draw_of read_lines read_line line_says words_from frame_says job_says
     release_says priority_says segment_says holds_says held_says names_with number_in held_from number_of number_from all_digits value_from with_line with_frame with_job with_segment ended
     bytes_of record_bytes line_at refusal refusal_in reading_of read_from goes_on ahead record_at marked sized failing jobs_from
 refused_so = refl
 
 -- a segment before any job, on line 3
 early_so : pack_of (comment ++ frame ++ second_segment) ≡ record { cause = 6; line = 3; bytes = [] }
-unfolding comment frame second_segment pack_of says_of draw_of lines_of read_lines read_line line_says words_from same frame_says segment_says holds_says held_says names_with number_in
+unfolding comment frame second_segment pack_of says_of draw_of read_lines read_line line_says words_from frame_says segment_says holds_says held_says names_with number_in
     held_from number_of number_from all_digits value_from with_line with_frame with_segment ended bytes_of record_bytes
 early_so = refl

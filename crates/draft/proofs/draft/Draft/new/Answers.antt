@@ -1,6 +1,7 @@
-use native.Mathlib.Omega.{arith}
-use Rattle.draft.specs.Laws.Reading.{drawn_start}
+use Rattle.std.proofs.Common.{refl}
+use Rattle.draft.specs.Laws.Packs.{zeros}
+use Rattle.draft.specs.Laws.Reading.{holds_start}
 use Rattle.draft.proofs.draft.Draft.new.Goals as goal
 
 pub returns : goal.returns
-returns c = (record { length = omega arith; job = omega arith }, λ s blank lines b l z. drawn_start s blank lines _ (c.none.ensures s) b l z)
+returns c = holds_start _ c.new.ensures refl (zeros 4096) refl refl (rw c.new-2.ensures)

@@ -1,9 +1,11 @@
-use native.Mathlib.Omega.{arith}
-use Rattle.draft.specs.Laws.Drafting.{frame_again, frame_first}
+use Rattle.std.proofs.Common.{refl, rules, ◌≡◌}
+use Rattle.draft.specs.Drafts.{size}
+use Rattle.draft.specs.Laws.Drafting.{frame_again}
+use Rattle.draft.specs.Laws.Pushing.{frame_told}
 use Rattle.draft.proofs.draft.Draft.with_frame.Goals as goal
 
-pub returns-then-self-ne0 : goal.returns-then-self-ne0
-returns-then-self-ne0 c = (c.refused.ensures.0, λ s blank x z h. rw c.refused.ensures.1 (frame_again s blank _ _ _ x z h _ _ c.if-self-ne0.true))
+pub returns-then-not-is_empty : goal.returns-then-not-is_empty
+returns-then-not-is_empty c = λ x h. let some : size c.args.self.now ≡ 0 → ⊥ = search rules in rw (frame_again c.args.self.now x h _ _ some, c.refused.ensures) (refl, refl)
 
 pub returns : goal.returns
-returns c = (record { length = omega arith; job = c.requires.job }, λ s blank x z h. frame_first s blank _ _ _ x z h _ _ _ _ c.if-self-ne0.false c.put_frame.ensures c.note.ensures)
+returns c = λ x h. let none : size c.args.self.now ≡ 0 = search rules in frame_told c.args.self.now x h _ _ _ _ none c.frame.ensures c.push.ensures

@@ -1,0 +1,15 @@
+use Rattle.std.proofs.Common.{rules, ◌∙◌, ℕ, List, Bor}
+use Rattle.std.proofs.lemmas.Iterator.{YieldsList-from_slice}
+use Rattle.std.proofs.lemmas.Iterator.Search.{position_from_yields_List}
+use Rattle.draft.specs.Words.{same}
+use Rattle.draft.specs.Laws.Knowing.{known_length, place_known}
+use Rattle.draft.proofs.locks.place_of.Goals as goal
+
+pub returns-clause-place : goal.returns-clause-place
+returns-clause-place c =
+    position_from_yields_List (λ (n : Bor (List ℕ)). same n.now c.args.name.now) _ _ _ c.position.ensures.ran
+    (YieldsList-from_slice c.args.names.now.items (rw c.iter.ensures.rest c.as_slice.ensures.value)) (λ x b q k. search rules)
+    ∙ place_known c.args.names.now c.args.name.now
+
+pub returns-clause-fits : goal.returns-clause-fits
+returns-clause-fits c = rw (known_length, ← c.as_slice.ensures.value) c.as_slice.ensures.fits
