@@ -1,6 +1,8 @@
 -- The digits of a number: they read back as the number, with no leading zero.
 use Rattle.std.specs.Prelude.{ℕ, zero, suc, ◌+◌, ◌-◌, ◌*◌, ◌/◌, ◌%◌, ◌^◌, ◌≤◌, ◌<◌, ◌≡◌, refl, List, [], ◌∷◌, ◌++◌, length, get_or}
-use Rattle.std.proofs.Common.{pow-suc, arith, ap, ◌∙◌, length-append, lt-ltb, le-ltb}
+use Rattle.std.proofs.Common.{pow-suc, arith, ap, sym, ◌∙◌, length-append, lt-ltb, le-ltb}
+use Rattle.std.proofs.lemmas.Fmt.{decimal_by_steps}
+use Rattle.std.specs.Fmt as std
 use Rattle.std.proofs.Math.Decide.{dec_lt}
 use Rattle.std.proofs.Math.ListN.{get_or-append}
 use Rattle.std.proofs.lemmas.List.{get_or_at}
@@ -30,6 +32,13 @@ unfolding decimal digits
 decimal_more zero h = absurd (omega arith)
 decimal_more (suc n) h =
     rw (le-ltb (suc n) 10 h) (ap (λ (l : List ℕ). l ++ digit (suc n % 10) ∷ []) (digits_enough n (suc n / 10) (suc n / 10) (omega arith) (omega arith)))
+
+-- the numeral is what std prints
+pub decimal_std : (n : ℕ) → n < 2 ^ 64 → std.decimal n ≡ decimal n
+decimal_std = decimal_by_steps (λ n s. s ≡ decimal n) (λ n h. sym (decimal_small n h)) more
+  where
+    more : (n : ℕ) (s : List ℕ) → 10 ≤ n → s ≡ decimal (n / 10) → s ++ digit (n % 10) ∷ [] ≡ decimal n
+    more n s h e = ap (λ (l : List ℕ). l ++ digit (n % 10) ∷ []) e ∙ sym (decimal_more n h)
 
 -- induction along the digits
 module _ (P : ℕ → List ℕ → Type 0)

@@ -3,3 +3,4 @@ pub mod Sample
 pub mod Digits
 pub mod Lengths
 pub mod Put
+pub mod Writer

@@ -1,6 +1,6 @@
 -- What a call writes: a text at a place of the buffer, as much of it as fits.
 use Rattle.std.specs.Prelude.{ℕ, suc, ◌+◌, ◌≤◌, ◌<◌, ◌≡◌, refl, List, [], ◌∷◌, ◌++◌, length, take, get_or, set}
-use Rattle.std.proofs.Common.{add-one, arith, sym, ap, ◌∙◌, length-append, length-take-le, take-suc, take_all}
+use Rattle.std.proofs.Common.{add-one, arith, sym, ap, ◌∙◌, length-append, take-suc}
 use Rattle.std.proofs.lemmas.List.Edits.{sets}
 use Rattle.std.proofs.Math.Seq.{length-sets}
 use Rattle.lines.specs.Text.{line}
@@ -45,14 +45,6 @@ line_last p = p.put
 pub put_length : {a t b : List ℕ} {i j : ℕ} → Put a i t b j → length b ≡ length a
 put_length {a = a} {t = t} {i = i} p = ap length p.content ∙ length-sets a i t
 
--- the place after the first n bytes of a text
-pub put_place : (s : List ℕ) (n : ℕ) → n ≤ length s → {a b : List ℕ} {i j : ℕ} → Put a i (take n s) b j → j ≡ i + n
-put_place s n h p = omega (arith, length-take-le n s h)
-
 -- one byte more of a text that is written byte by byte
 pub put_byte : (s : List ℕ) (n : ℕ) → n < length s → {a b c : List ℕ} {i j k : ℕ} → Put a i (take n s) b j → Put b j (get_or s n 0 ∷ []) c k → Put a i (take (n + 1) s) c k
 put_byte s n h p q = rw (add-one n, take-suc s n 0 h) (put_then p q)
-
--- all its bytes
-pub put_all : (s : List ℕ) (n : ℕ) → length s ≤ n → {a b : List ℕ} {i j : ℕ} → Put a i (take n s) b j → Put a i s b j
-put_all s n h p = rw (take_all n s h) at p

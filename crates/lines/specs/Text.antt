@@ -3,6 +3,7 @@ use Rattle.std.specs.Prelude.{ℕ, zero, suc, ◌+◌, ◌*◌, ◌/◌, ◌%◌
 use Prim.Native.Char.{code}
 use Prim.Native.String.{String}
 use Prim.Native.String as Quoted
+use Rattle.lines.specs.declared.row.Row.{Row}
 
 -- the bytes of a quoted ASCII text
 abbrev pub bytes : String → List ℕ
@@ -41,17 +42,6 @@ unfoldable pub line : List (List ℕ) → List ℕ
 line [] = bytes "\n"
 line (w ∷ []) = w ++ bytes "\n"
 line (w ∷ v ∷ ws) = w ++ bytes " " ++ line (v ∷ ws)
-
--- a node of the tree
-pub record Row : Type 0 where
-  pub parent : ℕ
-  pub kind : ℕ
-  pub job : ℕ
-  pub segment : ℕ
-  pub earliest_leaving : ℕ
-  pub latest_leaving : ℕ
-  pub earliest_start : ℕ
-  pub latest_start : ℕ
 
 -- node i, of the tree's words, eight a node
 abbrev pub row_at : List ℕ → ℕ → Row

@@ -3,51 +3,61 @@
 
 ghost use Rattle.std.specs.Prelude.{◌≡◌, ◌+◌, ◌*◌, ◌^◌, ◌<◌, ◌≤◌, length};
 ghost use Rattle.std.proofs.lemmas.List.Edits.{sets};
-ghost use Rattle.lines.specs.Text.{line, row_at, tick_words, node_line, head_line, refused_line, listing_of};
-ghost use Rattle.lines.specs.Put.{Put};
+ghost use Rattle.lines.specs.Text.{row_at, node_line, head_line, refused_line, listing_of};
+ghost use Rattle.lines.specs.Writer.{Writes};
 
-mod put;
+mod row;
+mod writer;
 
-// The ticks of node i, to the end of its line.
-fn ticks(out: &mut [u8], at: usize, words: &[u32], i: u32) -> usize
-    requires { at + 44 < 2 ^ 64 }
-    ensures { Put out.old at (line (tick_words (row_at words.now i))) out.new result }
-{
-    let first = 8 * i as usize;
-    let at = put::field(out, at, words, first + 4, b' ');
-    let at = put::field(out, at, words, first + 5, b' ');
-    let at = put::field(out, at, words, first + 6, b' ');
-    put::field(out, at, words, first + 7, b'\n')
-}
+use row::Row;
+use writer::Writer;
 
 // The line of node i.
-fn node(out: &mut [u8], at: usize, words: &[u32], i: u32) -> usize
-    requires { at + 99 < 2 ^ 64 }
-    ensures { Put out.old at (node_line i (row_at words.now i)) out.new result }
+fn node(text: &mut Writer<'_>, i: u32, row: Row)
+    requires { text.old.length + 99 < 2 ^ 64 }
+    ensures { Writes text.old (node_line i row) text.new }
 {
-    let first = 8 * i as usize;
-    let at = put::number(out, at, i, b' ');
-    let at = put::field(out, at, words, first, b' ');
-    let at = put::kind(out, at, words, first + 1, b' ');
-    let at = put::field(out, at, words, first + 2, b' ');
-    let at = put::field(out, at, words, first + 3, b' ');
-    ticks(out, at, words, i)
+    text.number(i, b' ');
+    text.field(row.parent, b' ');
+    text.kind(row.kind, b' ');
+    text.field(row.job, b' ');
+    text.field(row.segment, b' ');
+    text.field(row.earliest_leaving, b' ');
+    text.field(row.latest_leaving, b' ');
+    text.field(row.earliest_start, b' ');
+    text.field(row.latest_start, b'\n');
 }
 
-fn head(out: &mut [u8], nodes: u32, orders: u32) -> usize
-    ensures { Put out.old 0 (head_line nodes orders) out.new result }
+fn head(text: &mut Writer<'_>, nodes: u32, orders: u32)
+    requires { text.old.length + 44 < 2 ^ 64 }
+    ensures { Writes text.old (head_line nodes orders) text.new }
 {
-    let at = put::word(out, 0, b"nodes", b' ');
-    let at = put::number(out, at, nodes, b' ');
-    let at = put::word(out, at, b"orders", b' ');
-    put::number(out, at, orders, b'\n')
+    text.word(b"nodes", b' ');
+    text.number(nodes, b' ');
+    text.word(b"orders", b' ');
+    text.number(orders, b'\n');
 }
 
-fn refused(out: &mut [u8], refusal: u32) -> usize
-    ensures { Put out.old 0 (refused_line refusal) out.new result }
+fn refused(text: &mut Writer<'_>, refusal: u32)
+    requires { text.old.length + 22 < 2 ^ 64 }
+    ensures { Writes text.old (refused_line refusal) text.new }
 {
-    let at = put::word(out, 0, b"refused", b' ');
-    put::number(out, at, refusal, b'\n')
+    text.word(b"refused", b' ');
+    text.number(refusal, b'\n');
+}
+
+// The whole listing, or the line of a refusal.
+fn write_listing(text: &mut Writer<'_>, refusal: u32, nodes: u32, orders: u32, words: &[u32])
+    requires { text.old.length + 100 * (nodes + 1) < 2 ^ 64 }
+    ensures { Writes text.old (listing_of refusal nodes orders words.now) text.new }
+{
+    if refusal != 0 {
+        return refused(text, refusal);
+    }
+    head(text, nodes, orders);
+    for i in 0..nodes {
+        node(text, i, Row::at(words, i));
+    }
 }
 
 // The listing of a tree's answer: refusal, nodes, orders, and the words of the nodes. Answers the length of the text, also where the buffer is
@@ -56,14 +66,7 @@ pub fn listing(refusal: u32, nodes: u32, orders: u32, words: &[u32], out: &mut [
     ensures value { (result ≡ length (listing_of refusal nodes orders words.now)) × (out.new ≡ sets out.old 0 (listing_of refusal nodes orders words.now)) }
     ensures short { result ≤ 100 * (nodes + 1) }
 {
-    if refusal != 0 {
-        return refused(out, refusal);
-    }
-    let mut at = head(out, nodes, orders);
-    let mut i: u32 = 0;
-    while i < nodes {
-        at = node(out, at, words, i);
-        i += 1;
-    }
-    at
+    let mut text = Writer { out, length: 0 };
+    write_listing(&mut text, refusal, nodes, orders, words);
+    text.length
 }
