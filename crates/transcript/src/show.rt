@@ -1,75 +1,34 @@
 // What the library answers, as text.
-use crate::text;
-use std::io;
-use table::Table;
+use std::fmt;
 
-pub fn number(rt: &impl Print, n: u64) -> io::Result<()> {
-    rt.print(n)
-}
+// Words with a blank before each, and `-` for 4,294,967,295.
+#[derive(Clone, Copy)]
+pub struct Words<'a>(pub &'a [u32]);
 
-pub fn blank(rt: &impl Print) -> io::Result<()> {
-    rt.write_all(b" ")
-}
-
-// A word, and `-` for 4,294,967,295.
-fn word(rt: &impl Print, w: u32) -> io::Result<()> {
-    blank(rt)?;
-    if w == 4294967295 {
-        rt.write_all(b"-")
-    } else {
-        number(rt, w as u64)
-    }
-}
-
-// The first n words of a row.
-pub fn words(rt: &impl Print, row: &[u32], n: usize) -> io::Result<()> {
-    let mut i: usize = 0;
-    while i < row.len() {
-        if i < n {
-            word(rt, row[i])?;
+impl fmt::Display for Words<'_> {
+    fn fmt<W: fmt::Write>(&self, f: &mut fmt::Formatter<W>) -> fmt::Result {
+        for word in self.0 {
+            match *word {
+                u32::MAX => f.write_str(" -")?,
+                word => write!(f, " {word}")?,
+            }
         }
-        i += 1;
+        Ok(())
     }
-    Ok(())
 }
 
-fn two_digits(rt: &impl Print, byte: u8) -> io::Result<()> {
-    print!(rt; "{byte:02x}")
-}
+// Bytes in hexadecimal: `-` where there is none.
+#[derive(Clone, Copy)]
+pub struct Hex<'a>(pub &'a [u8]);
 
-// A part, in hexadecimal: `-` where it is empty.
-fn hex(rt: &impl Print, s: &[u8]) -> io::Result<()> {
-    blank(rt)?;
-    if s.len() == 0 {
-        rt.write_all(b"-")?;
-    }
-    let mut i: usize = 0;
-    while i < s.len() {
-        two_digits(rt, text::byte_at(s, i))?;
-        i += 1;
-    }
-    Ok(())
-}
-
-// The parts of the jobs by number, of one job more, and of the largest number.
-fn parts(rt: &impl Print, bytes: &[u8], jobs: usize) -> io::Result<()> {
-    let mut j: u32 = 0;
-    while j < 33 {
-        if (j as usize) <= jobs {
-            hex(rt, Table::part(bytes, j))?;
+impl fmt::Display for Hex<'_> {
+    fn fmt<W: fmt::Write>(&self, f: &mut fmt::Formatter<W>) -> fmt::Result {
+        if self.0.is_empty() {
+            return f.write_str("-");
         }
-        j += 1;
+        for byte in self.0 {
+            write!(f, "{byte:02x}")?;
+        }
+        Ok(())
     }
-    hex(rt, Table::part(bytes, 4294967295))
-}
-
-// The refusal and its place, and the parts of the jobs.
-pub fn reading(rt: &impl Print, bytes: &[u8]) -> io::Result<()> {
-    let outcome = Table::read(bytes);
-    rt.write_all(b"reads ")?;
-    number(rt, outcome.refusal as u64)?;
-    blank(rt)?;
-    number(rt, outcome.place as u64)?;
-    parts(rt, bytes, outcome.table.jobs)?;
-    rt.write_all(b"\n")
 }
