@@ -90,6 +90,10 @@ module _ (s : List ℕ) (t : Table) (e : Ok t ≡ outcome_of s) where
   unfolding recorded table_from
   jobs_is = ap (λ (t : Table). t.jobs) (ok_is s t e).1
 
+  -- its jobs have rows
+  pub small : t.jobs ≤ 32
+  small = rw jobs_is (few_jobs s zero_refusal)
+
   -- where it has no such job
   pub past_there : (j : ℕ) → t.jobs ≤ j → ◌≡◌ {A = Extent} (record { start = length s; length = 0 }) (record { start = start_of s j; length = length_of s j })
   unfolding has
@@ -99,8 +103,8 @@ module _ (s : List ℕ) (t : Table) (e : Ok t ≡ outcome_of s) where
     here : j < length (jobs_in s)
     here = rw (← jobs_is) l
 
-    pub small_job : j < 32
-    small_job = omega (arith, here, few_jobs s zero_refusal)
+    small_job : j < 32
+    small_job = omega (arith, l, small)
 
     has_it : has s j ≡ true
     unfolding has

@@ -10,8 +10,6 @@ use borrow.Author.Tests.{eqb-true, eqb-false, eq-eqb}
 use Rattle.table.specs.Records.{Placed, record_at, size_of, due, lacking, place_after, may_end, Reading, at_end, ahead, goes_on, read_from, reading_of}
 use Rattle.table.specs.Table.{jobs_of, padded, recorded}
 use Rattle.table.specs.Refusal.{nothing, outside, earlier, beyond, when, failing, Refusal, or_else, refusal_in, refusal, fault_number, fault_of, answer, outcome_of}
-use Rattle.table.specs.declared.Fault.{Fault}
-use Rattle.table.specs.declared.Fault.TheVariants.{Unreadable, OutOfBounds, OutOfOrder, Crowded}
 use Rattle.table.specs.declared.Refused.{Refused}
 use Rattle.table.specs.declared.Table.{Table}
 use Rattle.table.specs.declared.records.Place.{Place}
@@ -123,13 +121,6 @@ get_or_padded (suc n) filler (x ∷ xs) zero h = refl
 get_or_padded (suc n) filler (x ∷ xs) (suc j) h = get_or_padded n filler xs j (omega arith)
 
 -- ---- the answer's parts
-
--- no fault has number 0
-pub number_some : (f : Fault) → fault_number f ≢ 0
-number_some Unreadable e = omega arith
-number_some OutOfBounds e = omega arith
-number_some OutOfOrder e = omega arith
-number_some Crowded e = omega arith
 
 abbrev refused : Refusal → Refused
 refused n = record { fault = fault_of n.number; place = n.place }

@@ -5,7 +5,7 @@ ghost use Rattle.std.specs.Prelude.{◌≡◌, [], ◌+◌, ◌*◌, ◌<◌};
 ghost use Rattle.table.specs.Table.{recorded};
 ghost use Rattle.table.specs.Refusal.{fault_number, outcome_of};
 ghost use Rattle.table.specs.Part.{Lies, start_of, length_of, part_of};
-ghost use Rattle.table.specs.Steps.{kept, with_job, with_segment, added, known_by, judged};
+ghost use Rattle.table.specs.Steps.{kept, added, known_by, judged};
 ghost use Rattle.table.specs.Records.{may_end};
 
 mod records;
@@ -15,7 +15,7 @@ use records::{Place, Record};
 use scan::{Known, Scan};
 
 // What a job's record says, the place of its mark, and the number of its first segment.
-#[derive(Clone, Copy, Debug, PartialEq, Eq)]
+#[derive(Clone, Copy, Debug, Default, PartialEq, Eq)]
 pub struct Job {
     pub mark: usize,
     pub release: u32,
@@ -24,7 +24,7 @@ pub struct Job {
     pub count: u8,
 }
 
-#[derive(Clone, Copy, Debug, PartialEq, Eq)]
+#[derive(Clone, Copy, Debug, Default, PartialEq, Eq)]
 pub struct Segment {
     pub shortest: u32,
     pub longest: u32,
@@ -71,6 +71,7 @@ fn put<T: Copy, const N: usize>(row: &mut [T; N], count: &mut usize, value: T)
     ensures stored { row.new ≡ kept N row.old count.old value }
     ensures counted { count.new ≡ count.old + 1 }
 {
+    // A test and an index: the library does not promise what a slice ends as after `get_mut`.
     if *count < N {
         row[*count] = value;
     }
@@ -101,8 +102,8 @@ impl Table {
             frame: 0,
             jobs: 0,
             segments: 0,
-            job: [Job::NONE; Table::JOBS],
-            segment: [Segment::NONE; Table::SEGMENTS],
+            job: [Job::default(); Table::JOBS],
+            segment: [Segment::default(); Table::SEGMENTS],
         }
     }
 
@@ -148,7 +149,7 @@ impl Table {
         }
     }
 
-    // Reads a table. The part of the bytes from each record's mark on is handed to the record's reader.
+    // A table that reads whole and keeps its limits; else its lowest fault, at the first place where that arises.
     #[tactic(auto, using(crate::proofs::Walk::start, crate::proofs::Walk::step, crate::proofs::Walk::told, crate::proofs::Verdict::too_long, crate::proofs::Verdict::passed, crate::proofs::Verdict::refused))]
     pub fn read(bytes: &[u8]) -> Result<Table, Refused>
         ensures { result ≡ outcome_of bytes.now }
@@ -198,7 +199,7 @@ impl Table {
     }
 
     // Where the records of one job lie: nowhere, at the end, where the table is refused or has no such job.
-    #[tactic(auto, using(crate::proofs::Parts::refused_there, crate::proofs::Parts::past_there, crate::proofs::Parts::job_there))]
+    #[tactic(auto, using(crate::proofs::Parts::refused_there, crate::proofs::Parts::past_there, crate::proofs::Parts::job_there, crate::proofs::Parts::small))]
     pub fn extent(bytes: &[u8], job: u32) -> Extent
         ensures { result ≡ record { start = start_of bytes.now job; length = length_of bytes.now job } }
     {
@@ -222,14 +223,6 @@ impl Table {
 }
 
 impl Job {
-    const NONE: Job = Job {
-        mark: 0,
-        release: 0,
-        base: 0,
-        first: 0,
-        count: 0,
-    };
-
     // Where its record and its segments' records lie.
     fn extent(self) -> Extent
         ensures { result ≡ record { start = self.mark; length = 8 + 12 * self.count } }
@@ -239,14 +232,6 @@ impl Job {
             length: 8 + 12 * usize::from(self.count),
         }
     }
-}
-
-impl Segment {
-    const NONE: Segment = Segment {
-        shortest: 0,
-        longest: 0,
-        held: 0,
-    };
 }
 
 impl Fault {

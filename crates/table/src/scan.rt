@@ -31,16 +31,14 @@ impl Known {
         ensures { result ≡ outside self rec }
     {
         match rec {
-            Record::Frame(frame) => frame < 1 || Table::TICKS < frame,
+            Record::Frame(frame) => !(1..=Table::TICKS).contains(&frame),
             Record::Job(release, base, count) => {
                 self.frame <= release
-                    || base < 1
-                    || Table::BASE < base
-                    || count < 1
-                    || Table::COUNT < count
+                    || !(1..=Table::BASE).contains(&base)
+                    || !(1..=Table::COUNT).contains(&count)
             }
             Record::Segment(shortest, longest, _) => {
-                shortest < 1 || longest < shortest || Table::TICKS < longest
+                !(1..=longest).contains(&shortest) || Table::TICKS < longest
             }
         }
     }
