@@ -10,6 +10,7 @@ use Rattle.kernel.specs.Laws.Tests.{iflt}
 use Rattle.kernel.specs.Laws.Key.{key_of}
 use Rattle.kernel.specs.declared.kind.Kind.{Kind}
 use Rattle.kernel.specs.declared.kind.Kind.TheVariants.{First as KindFirst, End, Step, Cut}
+use Rattle.kernel.specs.declared.log.Log.{Log}
 use Rattle.kernel.specs.declared.state.Due.{Due}
 use Rattle.kernel.specs.declared.state.Due.TheVariants.{First as DueFirst, Cutting, Leaving}
 use Rattle.kernel.specs.declared.state.Standing.{Standing}
@@ -35,7 +36,7 @@ due_of (Leaving kind tick) = rules.leaving (kind_of kind) tick
 abbrev pub weight_at : JobSet → (i k : ℕ) → Bool → ℕ
 weight_at J i k begun = iflt k (J.segments i) (cond begun (2 * J.priority i k + 2) (2 * J.base i + 1)) 0
 
--- the time of segment k of job i, by the words of the job set
+-- the time of segment k of job i, by the number of its first segment
 abbrev pub time_at : (w : Jobs) (times : List ℕ) → (i k : ℕ) → ℕ
 time_at w times i k = get_or times (first_of w i + k) 0
 
@@ -87,7 +88,7 @@ abbrev pub job_or : (none : ℕ) → Option ℕ → ℕ
 job_or none None = none
 job_or none (Some d) = d
 
--- ---- the steps of a tick; w are the words of the job set
+-- ---- the steps of a tick; w is the job set as it is held
 
 -- 1. the running segment ends
 unfoldable pub end_step : (w : Jobs) (times : List ℕ) → (tick : ℕ) → State → State
@@ -207,9 +208,15 @@ note_words DueFirst tick d k = four_words KindFirst tick d k
 note_words Cutting tick d k = four_words Cut tick d k
 note_words (Leaving kind left) tick d k = four_words kind left d k
 
+-- a log with n switches more, whose words are this row, as far as there is room
+pub record Appended (old new : Log) (n : ℕ) (row : List ℕ) : Type 0 where
+  pub lent : new.words.ghost_name ≡ old.words.ghost_name
+  pub count : new.count ≡ old.count + n
+  pub words : new.words.now ≡ sets old.words.now (4 * old.count) row
+
 -- ---- a run
 
--- what a run is given: an accepted table's words, and one time per segment within its bounds
+-- what a run is given: an accepted table's job set, and one time per segment within its bounds
 pub record Runs (w : Jobs) (times : List ℕ) : Type 0 where
   pub loaded : Loaded w
   pub within : Within (set_of w) (time_in (set_of w) times)

@@ -5,7 +5,8 @@ ghost use Rattle.std.specs.Prelude.{◌≡◌};
 ghost use Rattle.kernel.specs.Held.{set_of, first_of, job_at, segment_at};
 ghost use Rattle.kernel.specs.Code.{time_at};
 
-#[derive(Clone, Copy, Default)]
+// Other than a table's job, it has no mark; other than a table's segment, a segment has its priority and not its locks.
+#[derive(Clone, Copy, Debug, Default, PartialEq, Eq)]
 pub struct Job {
     pub release: u32,
     pub base: u32,
@@ -14,7 +15,7 @@ pub struct Job {
     pub segments: u32,
 }
 
-#[derive(Clone, Copy, Default)]
+#[derive(Clone, Copy, Debug, Default, PartialEq, Eq)]
 pub struct Segment {
     pub shortest: u32,
     pub longest: u32,
@@ -25,7 +26,7 @@ pub struct Segment {
 #[derive(Clone, Copy)]
 pub struct Jobs {
     pub frame: u32,
-    // How many of the 32 there are: nothing allocates, so the room is fixed.
+    // How many of the 32 there are. A count, and no `ArrayVec`: a job set is `Copy`, and reads as 0 past its jobs.
     pub count: usize,
     pub job: [Job; 32],
     pub segment: [Segment; 64],
@@ -52,6 +53,7 @@ impl Jobs {
         Segment::default()
     }
 
+    // From here on one function for each number: docs/PROMISES.md promises each by its name.
     pub fn frame(&self) -> u32
         ensures { result ≡ (set_of self.now).frame }
     {

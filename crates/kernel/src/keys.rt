@@ -20,7 +20,7 @@ fn key_of(weight: u32, i: usize) -> u16
 }
 
 impl Accepted {
-    // The key of job i at its segment k: begun, it has the priority of the segment, and before that its base.
+    // The key of job i at its segment k: begun, it has the priority of the segment, and before that its base. A flag says which, since docs/PROMISES.md names one function.
     pub fn ready_key(&self, i: usize, k: u32, begun: bool) -> u16
         ensures { result ≡ key_of (weight_at (set_of self.now.jobs) i k begun) i }
     {

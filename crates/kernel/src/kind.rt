@@ -10,7 +10,7 @@ use crate::accepted::Accepted;
 
 #[derive(Clone, Copy, Debug, PartialEq, Eq)]
 pub enum Kind {
-    First,
+    First = 0,
     End,
     Step,
     Cut,
@@ -20,12 +20,7 @@ impl From<Kind> for u32 {
     ghost from_gives = { λ kind number. number ≡ kind_number (kind_of kind) };
 
     fn from(kind: Kind) -> u32 {
-        match kind {
-            Kind::First => 0,
-            Kind::End => 1,
-            Kind::Step => 2,
-            Kind::Cut => 3,
-        }
+        kind as u32
     }
 }
 

@@ -9,7 +9,7 @@ use crate::accepted::Accepted;
 use crate::kind::Kind;
 
 // What the next dispatch will report.
-#[derive(Clone, Copy)]
+#[derive(Clone, Copy, Debug, PartialEq, Eq)]
 pub enum Due {
     First,
     Cutting,
@@ -18,7 +18,7 @@ pub enum Due {
 }
 
 // Where a job stands: its present segment, and what is left of that where the job does not run.
-#[derive(Clone, Copy, Default)]
+#[derive(Clone, Copy, Debug, Default, PartialEq, Eq)]
 pub struct Standing {
     pub segment: u8,
     pub rest: u32,
@@ -37,7 +37,8 @@ pub struct Standings {
 pub struct Processor {
     // How many jobs are released.
     pub released: usize,
-    // The job that had the last tick, and what is left of its segment. As in specs/Rules.antt, the number of jobs stands for none.
+    // The job that had the last tick, and what is left of its segment.
+    // The number of jobs stands for none: specs/Rules.antt has it so, and `Shows` sets the state of `state_of` beside the rules' run field by field.
     pub running: usize,
     pub left: u32,
     pub due: Due,
@@ -75,10 +76,7 @@ impl Standings {
         ensures { Fresh set.now.jobs times.now (state_of result (idle set.now.jobs)) }
     {
         // A `for`, as the proof of `array::from_fn` at a closure that calls `time` did not close.
-        let mut job = [Standing {
-            segment: 0,
-            rest: 0,
-        }; 32];
+        let mut job = [Standing::default(); 32];
         for (i, standing) in job.iter_mut().enumerate() {
             standing.rest = set.jobs.time(times, i, 0);
         }
@@ -183,6 +181,7 @@ impl Processor {
         ensures { state_of standings.new self.new ≡ dispatch_step set.now.jobs d (state_of standings.old self.old) }
     {
         let k = standings.present(d);
+        // A test and an index: the library does not promise what a row ends as after `get_mut`.
         if self.running < 32 {
             standings.job[self.running].rest = self.left;
         }

@@ -6,14 +6,11 @@ ghost use Rattle.kernel.specs.Jobs.{sum};
 use crate::accepted::Accepted;
 
 impl Accepted {
-    #[tactic(auto, using(crate::specs::Laws::Sums::sum_none, crate::specs::Laws::Sums::sum_more, crate::specs::Laws::Sums::sum_rises))]
     pub fn total_segments(&self) -> usize
         ensures { result ≡ sum (set_of self.now.jobs).segments (set_of self.now.jobs).jobs }
     {
-        let mut total = 0;
-        for i in 0..self.jobs.jobs() {
-            total += self.jobs.segments(i) as usize;
-        }
-        total
+        (0..self.jobs.jobs())
+            .map(|i| self.jobs.segments(i) as usize)
+            .sum()
     }
 }

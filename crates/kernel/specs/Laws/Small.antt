@@ -1,4 +1,4 @@
--- The words of an accepted table: where there is a segment there is its job, and their numbers are small.
+-- The job set of an accepted table: where there is a segment there is its job, and their numbers are small.
 use Rattle.kernel.specs.declared.jobs.Jobs.{Jobs}
 use Rattle.std.specs.Prelude.{◌≡◌, refl, Bool, true, false, cond, ℕ, ◌+◌, ◌*◌, ◌≤◌, ◌<◌, get_or, ltb}
 use Rattle.std.proofs.Common.{arith, ltb-true}

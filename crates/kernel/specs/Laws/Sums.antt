@@ -1,6 +1,9 @@
 -- Sums of the first numbers of a function: with larger numbers, with more of them, and of another function with the same ones.
 use Rattle.std.specs.Prelude.{ℕ, zero, suc, ◌+◌, ◌*◌, ◌≤◌, ◌<◌, ◌≡◌, refl}
-use Rattle.std.proofs.Common.{add-one, arith, ap, ap₂}
+use Rattle.std.specs.List.{range_with_len, sum_by}
+use Rattle.std.proofs.Common.{add-one, arith, ap, ap₂, sym, ◌∙◌}
+use Rattle.std.proofs.lemmas.List.{map-id}
+use Rattle.std.proofs.lemmas.List.FromFn.{sum_by-map-range_with_len_more}
 use Rattle.kernel.specs.Jobs.{sum}
 use Rattle.kernel.specs.Laws.Tests.{split}
 
@@ -38,6 +41,17 @@ pub sum_millions : (f : ℕ → ℕ) (n : ℕ) → ((i : ℕ) → i < n → f i 
 unfolding sum
 sum_millions f zero h = omega arith
 sum_millions f (suc n) h = omega (arith, sum_millions f n (λ i q. h i (omega arith)), h n (omega arith))
+
+-- as the sum of a list of those numbers
+pub sum_listed : (f : ℕ → ℕ) (n : ℕ) → sum_by f (range_with_len 0 n) ≡ sum f n
+unfolding sum
+sum_listed f zero = refl
+sum_listed f (suc n) =
+    ap (λ (k : ℕ). sum_by f (range_with_len 0 k)) (sym (add-one n))
+    ∙ ap (sum_by f) (sym (map-id (range_with_len 0 (n + 1))))
+    ∙ sum_by-map-range_with_len_more f (λ i. i) 0 n n (omega arith)
+    ∙ ap (λ l. sum_by f l + f n) (map-id (range_with_len 0 n))
+    ∙ ap (λ (m : ℕ). m + f n) (sum_listed f n)
 
 -- a loop that has added none, adds one more, and has added all
 pub sum_none : (f : ℕ → ℕ) → 0 ≡ sum f 0

@@ -1,10 +1,11 @@
-use Rattle.std.proofs.Common.{refl, arith}
+use Rattle.std.proofs.Common.{◌≡◌, refl, arith, rules}
+use Rattle.kernel.specs.Code.{no_standing}
 use Rattle.kernel.proofs.Arrays.{all_over}
 use Rattle.kernel.proofs.Filled.{none_filled}
 use Rattle.kernel.proofs.state.Standings.fresh.Goals as goal
 
 pub loop-i-init : goal.loop-i-init
-loop-i-init c = none_filled _ _
+loop-i-init c = let e : c.default-job.result ≡ no_standing = search rules in rw e (none_filled _ _)
 
 pub returns : goal.returns
 returns c =
