@@ -6,18 +6,21 @@ ghost use Rattle.table.specs.Sound.{Sound};
 ghost use Rattle.jobset.specs.Load.{Ceilings, held_first, Laid};
 
 mod ceilings;
+mod sound;
 
 use ceilings::LOCKS;
 use kernel::accepted::Accepted;
 use kernel::jobs::{Job, Jobs, Segment};
+use sound::SoundTable;
 use table::Table;
 
 // Job i and its segments, which follow those of the jobs before it.
 #[tactic(auto, using(crate::specs::Laws::Accepted::segments_fit))]
-fn put_job(jobs: &mut Jobs, table: &Table, ceilings: &[u32; LOCKS], i: usize)
-    requires { Sound table.now × (i < table.now.jobs) × Ceilings table.now ceilings.now × (jobs.old ≡ held_first table.now i) }
-    ensures { jobs.new ≡ held_first table.now (i + 1) }
+fn put_job(jobs: &mut Jobs, sound: &SoundTable<'_>, ceilings: &[u32; LOCKS], i: usize)
+    requires { (i < sound.now.table.now.jobs) × Ceilings sound.now.table.now ceilings.now × (jobs.old ≡ held_first sound.now.table.now i) }
+    ensures { jobs.new ≡ held_first sound.now.table.now (i + 1) }
 {
+    let table = sound.table;
     let job = table.job[i];
     jobs.job[i] = Job {
         release: job.release,
@@ -41,7 +44,8 @@ pub fn load(table: &Table) -> Accepted
     requires { Sound table.now }
     ensures { Laid table.now result.jobs }
 {
-    let ceilings = ceilings::ceilings(table);
+    let sound = SoundTable { table };
+    let ceilings = sound.ceilings();
     let mut jobs = Jobs {
         frame: table.frame,
         count: table.jobs,
@@ -49,7 +53,7 @@ pub fn load(table: &Table) -> Accepted
         segment: [Segment::default(); Table::SEGMENTS],
     };
     for i in 0..table.jobs {
-        put_job(&mut jobs, table, &ceilings, i);
+        put_job(&mut jobs, &sound, &ceilings, i);
     }
     Accepted { jobs }
 }

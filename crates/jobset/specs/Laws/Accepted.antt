@@ -45,6 +45,12 @@ module _ (t : Table) (S : Sound t) where
   all_segments zero e = absurd (omega (arith, S.jobs_some))
   all_segments (suc j) e = omega (arith, S.last j (sym e), first_is j (omega arith))
 
+  -- the segments of a job end before those of a later one begin
+  pub earlier_number : (i n k : ℕ) → i < n → n < t.jobs → k < count_of t i → number_of t i k < (the_job t n).first
+  unfolding sum
+  earlier_number i n k h q z =
+      omega (arith, first_is i (omega arith), first_is n q, sum_rises (count_of t) (suc i) n h)
+
   pub last_number : (i : ℕ) → i < t.jobs → (the_job t i).first + count_of t i ≤ t.segments
   unfolding sum
   last_number i h = omega (arith, first_is i h, sum_rises (count_of t) (suc i) t.jobs h, all_segments t.jobs refl)
