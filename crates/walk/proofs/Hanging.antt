@@ -6,7 +6,6 @@ use Rattle.std.proofs.lemmas.List.Edits.{sets}
 use Rattle.std.proofs.Math.Seq.{length-sets}
 use Rattle.std.specs.Borrow.{MutBor}
 use Rattle.kernel.specs.Rules.{JobSet, Kind}
-use Rattle.kernel.specs.Log.{nothing}
 use Rattle.kernel.specs.Held.{set_of, Loaded}
 use Rattle.kernel.specs.Laws.Tests.{if-lt, if-ge}
 use Rattle.kernel.specs.Laws.Control.{Control, mark}
@@ -38,16 +37,16 @@ module _ {w : Jobs} {s : List Standing} {x : Switch} {kind : Kind} {κ : Control
   abbrev twig : Child
   twig = child (set_of w) kind κ least most p
 
-  last_row : (set_of w).jobs ≤ twig.state.job → row_of parent x nothing nothing ≡ node_words (set_of w) (parent, info_for twig)
+  last_row : x.job ≡ None → (set_of w).jobs ≤ twig.state.job → row_of parent x None ≡ node_words (set_of w) (parent, info_for twig)
   unfolding child dispatch
-  last_row h = rw (T.switch, T.same_kind, le-ltb p.job (set_of w).jobs h)
+  last_row q h = rw (q, T.switch, T.same_kind, le-ltb p.job (set_of w).jobs h)
 
-  job_row : (d : ℕ) → x.job ≡ Some d → row_of parent x d (standing_at s d).segment ≡ node_words (set_of w) (parent, info_for twig)
+  job_row : (d : ℕ) → x.job ≡ Some d → row_of parent x (Some (standing_at s d).segment) ≡ node_words (set_of w) (parent, info_for twig)
   unfolding child dispatch mark
   job_row d q =
       let (e, l) = twig_some T q in
       let h : p.job < (set_of w).jobs = omega (arith, e) in
-      rw (e, T.switch, T.same_kind, lt-ltb p.job (set_of w).jobs h, T.stands.segment p.job h)
+      rw (q, e, T.switch, T.same_kind, lt-ltb p.job (set_of w).jobs h, T.stands.segment p.job h)
 
 module _ {o : Walk} {x : Switch} {depth : ℕ} {known : Known} (A : HangAsk o x depth known) where
   abbrev J : JobSet
@@ -66,14 +65,14 @@ module _ {o : Walk} {x : Switch} {depth : ℕ} {known : Known} (A : HangAsk o x 
 
   -- none is dispatched
   pub hung_last : {parent : ℕ} {b : MutBor (List ℕ)} {c : Counts} {r : Room c o.cap} → o.seen.nodes < o.cap → x.job ≡ None
-      → b.ghost_name ≡ o.words.ghost_name → b.now ≡ sets o.words.now (8 * o.seen.nodes) (row_of parent x nothing nothing) → c ≡ with_order o.seen
+      → b.ghost_name ≡ o.words.ghost_name → b.now ≡ sets o.words.now (8 * o.seen.nodes) (row_of parent x None) → c ≡ with_order o.seen
       → Hung o (record { set = o.set; words = b; state = o.state; seen = c; cap = o.cap; room = r }) x parent depth
   hung_last {parent} {b = b} h q eg eb ec = record {
-    kept = record { set = refl; cap = refl; state = refl; same_words = eg; long = ap length eb ∙ length-sets o.words.now (8 * o.seen.nodes) (row_of parent x nothing nothing) };
+    kept = record { set = refl; cap = refl; state = refl; same_words = eg; long = ap length eb ∙ length-sets o.words.now (8 * o.seen.nodes) (row_of parent x None) };
     wrote = λ kind κ least most p T.
         let y : Child = child J kind κ least most p in
         let j : J.jobs ≤ y.state.job = twig_none T q in
-        rw (ec, hang_one (grow J depth)) (wrote_node {last = 1} h (eb ∙ ap (sets o.words.now (8 * o.seen.nodes)) (last_row T parent j))
+        rw (ec, hang_one (grow J depth)) (wrote_node {last = 1} h (eb ∙ ap (sets o.words.now (8 * o.seen.nodes)) (last_row T parent q j))
         (if-ge _ J.jobs 0 1 j) refl refl
         (rw (grow_idle J y.state y.box depth j) (wrote_none (more_room (o.seen.orders + 1) h (omega arith)))));
   }
@@ -106,12 +105,12 @@ module _ {o : Walk} {x : Switch} {depth : ℕ} {known : Known} (A : HangAsk o x 
     }
 
     pub hung_job : {parent : ℕ} {b : MutBor (List ℕ)} {r : Room more o.cap} {n : Walk} {again : Room n.seen n.cap} → b.ghost_name ≡ o.words.ghost_name
-        → b.now ≡ sets o.words.now (8 * o.seen.nodes) (row_of parent x d (standing_at o.state d).segment)
+        → b.now ≡ sets o.words.now (8 * o.seen.nodes) (row_of parent x (Some (standing_at o.state d).segment))
         → Grown (record { set = o.set; words = b; state = set o.state d now; seen = more; cap = o.cap; room = r }) n d x.from x.to o.seen.nodes depth
         → Hung o (with_job n d (standing_at o.state d) again) x parent depth
     hung_job {parent} eg eb G = record {
       kept = kept_back d now G.kept eg
-          (ap length eb ∙ length-sets o.words.now (8 * o.seen.nodes) (row_of parent x d (standing_at o.state d).segment));
+          (ap length eb ∙ length-sets o.words.now (8 * o.seen.nodes) (row_of parent x (Some (standing_at o.state d).segment)));
       wrote = λ kind κ least most p T.
           let (e, l) = twig_some T q in
           let j : (child J kind κ least most p).state.job < J.jobs = omega (arith, e) in

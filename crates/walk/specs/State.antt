@@ -1,5 +1,5 @@
 -- Where a walk stands, as the code holds it: how each of 32 jobs does.
-use Rattle.std.specs.Prelude.{ℕ, ◌≤◌, ◌<◌, ◌≡◌, true, false, List, length, get_or}
+use Rattle.std.specs.Prelude.{ℕ, ◌≤◌, ◌<◌, ◌≡◌, Bool, true, false, List, length, get_or}
 use Rattle.kernel.specs.Rules.{JobSet}
 use Rattle.kernel.specs.Code.{weight_at}
 use Rattle.kernel.specs.Laws.Control.{Control, weight}
@@ -16,13 +16,17 @@ standing_at s i = get_or s i no_standing
 abbrev pub key_at : List Standing → ℕ → ℕ
 key_at s i = (standing_at s i).key
 
--- job i, begun, at the start of its segment k
+-- job i at the start of its segment k
+abbrev pub start_at : JobSet → (i k : ℕ) → Bool → Standing
+start_at J i k begun = record { key = key_of (weight_at J i k begun) i; segment = k; least = J.shortest i k; most = J.longest i k }
+
+-- begun
 abbrev pub begun_at : JobSet → (i k : ℕ) → Standing
-begun_at J i k = record { key = key_of (weight_at J i k true) i; segment = k; least = J.shortest i k; most = J.longest i k }
+begun_at J i k = start_at J i k true
 
 -- not begun
 abbrev pub new_at : JobSet → ℕ → Standing
-new_at J i = record { key = key_of (weight_at J i 0 false) i; segment = 0; least = J.shortest i 0; most = J.longest i 0 }
+new_at J i = start_at J i 0 false
 
 -- dispatched
 abbrev pub resumed_as : JobSet → ℕ → Standing → Standing

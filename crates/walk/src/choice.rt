@@ -1,4 +1,5 @@
-// Which job is dispatched, and until when. Releases do not fall, so that those released by a tick come first.
+// Which job is dispatched, and until when. Releases do not fall, so that those released by a tick come first. The set stays and the row changes from call to call,
+// so that they are two parameters and no struct.
 ghost use Rattle.std.specs.Prelude.{◌≡◌, ◌<◌, IfSome};
 ghost use Rattle.kernel.specs.Jobs.{largest};
 ghost use Rattle.walk.specs.State.{key_at};
@@ -9,7 +10,7 @@ use kernel::accepted::Accepted;
 
 // What is known already: which job is the first unfinished one, and how many jobs are released at least. That these are so is said of the job set and of how its
 // jobs stand, which are not held here: the clauses say it.
-#[derive(Clone, Copy)]
+#[derive(Clone, Copy, Debug, PartialEq, Eq)]
 pub struct Known {
     pub first: usize,
     pub released: usize,
@@ -53,6 +54,7 @@ fn top(state: &[Standing; 32], first: usize, out: usize) -> u32
     requires { TopAsk state.now first out }
     ensures { result ≡ largest (key_at state.now) out }
 {
+    // A loop: with a chain that ends in `max`, each level of the descent takes more stack.
     let mut best: u32 = 0;
     for job in &state[first..out] {
         best = best.max(job.key);
@@ -83,6 +85,7 @@ pub fn after(set: &Accepted, state: &[Standing; 32], known: Known) -> Option<u32
     if set.jobs.jobs() <= first {
         return None;
     }
+    // A key of four bytes, read as the kernel reads its own of two.
     let best = top(state, first, reached(set, first, known.released));
     Some(31 - best % 32)
 }

@@ -1,6 +1,6 @@
 // How many nodes a tree has, and how many of them end a run.
 ghost use Rattle.std.specs.Prelude.{◌≡◌};
-ghost use Rattle.walk.specs.Counts.{no_counts, Few, with_node, with_order};
+ghost use Rattle.walk.specs.Counts.{Few, with_node, with_order};
 
 #[derive(Clone, Copy, Debug, Default, PartialEq, Eq)]
 pub struct Counts {
@@ -20,14 +20,14 @@ impl Counts {
         }
     }
 
-    // And that does.
+    // One node more, that ends a run.
     pub(crate) fn with_order(self) -> Counts
         requires { Few self }
         ensures { result ≡ with_order self }
     {
         Counts {
-            nodes: self.nodes + 1,
             orders: self.orders + 1,
+            ..self.with_node()
         }
     }
 }

@@ -33,13 +33,13 @@ impl<'a> Walk<'a> {
             return;
         }
         let Some(d) = x.job else {
-            nodes::put(self.words, at, parent, x, u32::MAX, u32::MAX);
+            nodes::put(self.words, at, parent, x, None);
             self.seen = self.seen.with_order();
             return;
         };
         let j = d as usize;
         let was = self.state[j];
-        nodes::put(self.words, at, parent, x, d, was.segment);
+        nodes::put(self.words, at, parent, x, Some(was.segment));
         self.seen = self.seen.with_node();
         self.state[j] = was.resumed(self.set, j);
         self.grow(j, x.from, x.to, at, depth, known);
@@ -88,8 +88,9 @@ impl<'a> Walk<'a> {
         self.state[j] = was;
     }
 
-    // Job j is cut at tick `latest`, and all that may follow. At least one tick of its segment is left.
+    // Job j is cut at tick `latest`, and all that may follow. At least one tick of its segment is left. Its ticks are those of this call alone, so that no struct holds them.
     #[cycle(descent)]
+    #[tactic(auto, using(crate::proofs::Cutting::cut_switch))]
     fn cut_off(
         &mut self,
         j: usize,

@@ -17,6 +17,7 @@ use choice::Known;
 use counts::Counts;
 use descent::Walk;
 use kernel::accepted::Accepted;
+use kernel::words::NOTHING;
 
 // How many nodes these words hold, at most 1,000,000.
 fn room_of(words: usize) -> u32
@@ -33,9 +34,11 @@ fn enough(set: &Accepted) -> usize
 }
 
 // One walk over all orders that writes as many words as are lent, and counts nodes up to `cap`.
+#[tactic(auto, using(crate::specs::Laws::Root::root_ask))]
 fn pass(set: &Accepted, words: &mut [u32], cap: u32) -> Counts
     requires { cap ≤ 1000001 }
-    ensures { Passed set.now.jobs cap words.old words.new result }
+    ensures passed { Passed set.now.jobs cap words.old words.new result }
+    ensures orders { result.orders ≤ result.nodes }
 {
     let mut walk = Walk {
         set,
@@ -46,7 +49,7 @@ fn pass(set: &Accepted, words: &mut [u32], cap: u32) -> Counts
     };
     let first = choice::first_unfinished(set, &walk.state, 0);
     let x = switches::first(set, &walk.state, first);
-    walk.hang(&x, u32::MAX, enough(set), Known { first, released: 0 });
+    walk.hang(&x, NOTHING, enough(set), Known { first, released: 0 });
     walk.seen
 }
 
@@ -57,8 +60,7 @@ pub fn tree(set: &Accepted, words: &mut [u32]) -> Option<Counts>
     ensures { Walked (set_of set.now.jobs) words.old words.new result }
 {
     let room = room_of(words.len());
-    let mut scrap = [0u32; 1];
-    let seen = pass(set, &mut scrap, room + 1);
+    let seen = pass(set, &mut [], room + 1);
     if room < seen.nodes {
         return None;
     }

@@ -6,9 +6,9 @@ ghost use Rattle.walk.specs.Nodes.{row_of};
 use crate::switches::Switch;
 use kernel::words;
 
-// Node number `at`: the switch x, with the job and the segment as they are shown.
-pub fn put(nodes: &mut [u32], at: u32, parent: u32, x: &Switch, job: u32, segment: u32)
-    ensures { nodes.new ≡ sets nodes.old (8 * at) (row_of parent x.now job segment) }
+// Node number `at`: the switch x, and the segment that its job starts in.
+pub fn put(nodes: &mut [u32], at: u32, parent: u32, x: &Switch, segment: Option<u32>)
+    ensures { nodes.new ≡ sets nodes.old (8 * at) (row_of parent x.now segment) }
 {
     let place = 8 * at as usize;
     // A walk that only counts has room for no node.
@@ -18,8 +18,8 @@ pub fn put(nodes: &mut [u32], at: u32, parent: u32, x: &Switch, job: u32, segmen
     let row = [
         parent,
         u32::from(x.kind),
-        job,
-        segment,
+        x.job.unwrap_or(words::NOTHING),
+        segment.unwrap_or(words::NOTHING),
         x.first,
         x.last,
         x.from,

@@ -10,7 +10,7 @@ use kernel::accepted::Accepted;
 use kernel::kind::Kind;
 
 // From its first to its last tick of leaving; the job that it names, where one is left, and from when to when that starts.
-#[derive(Clone, Copy)]
+#[derive(Clone, Copy, Debug, PartialEq, Eq)]
 pub struct Switch {
     pub kind: Kind,
     pub first: u32,
@@ -21,7 +21,7 @@ pub struct Switch {
 }
 
 // When a job is released; 0 where there is none.
-fn released(set: &Accepted, job: Option<u32>) -> u32
+fn release_of_job(set: &Accepted, job: Option<u32>) -> u32
     ensures { result ≡ release_of (set_of set.now.jobs) job }
 {
     job.map_or(0, |d| set.jobs.release(d as usize))
@@ -31,7 +31,7 @@ fn released(set: &Accepted, job: Option<u32>) -> u32
 fn to_job(set: &Accepted, kind: Kind, first: u32, last: u32, job: Option<u32>) -> Switch
     ensures { result ≡ switch_to (set_of set.now.jobs) kind first last job }
 {
-    let release = released(set, job);
+    let release = release_of_job(set, job);
     Switch {
         kind,
         first,
@@ -43,6 +43,7 @@ fn to_job(set: &Accepted, kind: Kind, first: u32, last: u32, job: Option<u32>) -
 }
 
 // The switch of the ticks of leaving from t to `latest` at most that lead to one job.
+#[tactic(auto, using(crate::specs::Laws::Spanned::spanned))]
 pub fn span(
     set: &Accepted,
     state: &[Standing; 32],
@@ -79,6 +80,6 @@ pub fn first(set: &Accepted, state: &[Standing; 32], first: usize) -> Switch
 {
     let known = Known { first, released: 0 };
     let job = choice::after(set, state, known.by(set, 0));
-    let tick = released(set, job);
+    let tick = release_of_job(set, job);
     to_job(set, Kind::First, tick, tick, job)
 }

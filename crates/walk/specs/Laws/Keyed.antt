@@ -160,11 +160,14 @@ module _ (w : Jobs) (s : List Standing) (L : Loaded w) where
   pub weighs : (i : ℕ) → i < J.jobs → (κ : Control) → Keyed J κ s → word i / 32 ≡ weight J κ i
   weighs i h κ K = ap (λ (n : ℕ). n / 32) (K i h) ∙ weight_of_key (weight J κ i) i
 
+  pub weighs_none : (i : ℕ) → J.jobs ≤ i → (κ : Control) → Keyed J κ s → i ≤ J.jobs → 0 ≡ weight J κ i
+  weighs_none i h κ K q = let e : i ≡ J.jobs = omega arith in sym (ap (weight J κ) e ∙ (laws κ).v_n)
+
   -- also where there is no such job
   pub weighs_in : (d : ℕ) → d ≤ J.jobs → (κ : Control) → Keyed J κ s → weight_of s (job_in J d) ≡ weight J κ d
   weighs_in d h κ K = split d J.jobs
       (λ (q : d < J.jobs). rw (if-lt d J.jobs (Some d) None q) (weighs d q κ K))
-      (λ (q : J.jobs ≤ d). rw (if-ge d J.jobs (Some d) None q) (let e : d ≡ J.jobs = omega arith in sym (ap (weight J κ) e ∙ (laws κ).v_n)))
+      (λ (q : J.jobs ≤ d). rw (if-ge d J.jobs (Some d) None q) (weighs_none d q κ K h))
 
   -- a release after a of a job of weight above v is not among those that were passed
   not_passed : (out v k a i : ℕ) (κ : Control) → Keyed J κ s → OutBy w a out → NoneAbove s out v k → i < J.jobs → v < weight J κ i → a < J.release i → k ≤ i

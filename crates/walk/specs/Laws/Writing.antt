@@ -11,10 +11,15 @@ use Rattle.orders.specs.Laws.Box.{Box, Child}
 use Rattle.orders.specs.Laws.Walk.{hang}
 use Rattle.orders.specs.Laws.Words.{words, words_length}
 use Rattle.kernel.proofs.Noted.{sets_append}
-use Rattle.walk.specs.Descent.{ends, Wrote}
+use Rattle.walk.specs.Descent.{ends, Wrote, Kept, Writes}
 use Rattle.walk.specs.Counts.{Room}
 use Rattle.walk.specs.Laws.Forests.{size_append, ends_append, words_append}
 use Rattle.walk.specs.declared.counts.Counts.{Counts}
+use Rattle.walk.specs.declared.descent.Walk.{Walk}
+
+-- a count that stays within its limit
+pub still_room : {o n : Walk} {F : Forest} {parent : ℕ} → Room o.seen o.cap → Kept o n → Writes o n parent F → Room n.seen o.cap
+still_room {o} {n} r K W = rw K.cap at n.room
 
 module _ {J : JobSet} {parent cap : ℕ} where
   pub wrote_none : {b : List ℕ} {c : Counts} → Room c cap → Wrote J none parent cap b c b c

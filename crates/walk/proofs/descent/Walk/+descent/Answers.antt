@@ -4,11 +4,8 @@ use Rattle.walk.proofs.Hanging.{hung_past, hung_last, hang_fits, hang_grows, hun
 use Rattle.walk.proofs.Growing.{grown_none, early_fits, grow_leaves, grown_left, grow_cuts, grown_cut}
 use Rattle.walk.proofs.Turn.{turn_span, turn_last, turn_less, turn_hang, turn_more}
 use Rattle.walk.proofs.Leaving.{segment_small, leave_ended, leave_starts, left_all}
-use Rattle.walk.proofs.Cutting.{cut_switch, cut_hangs, cut_all}
+use Rattle.walk.proofs.Cutting.{cut_hangs, cut_all}
 use Rattle.walk.proofs.descent.Walk.+descent.Goals as goal
-
-pub cut_off-cut-x-requires : goal.cut_off-cut-x-requires
-cut_off-cut-x-requires t c = search (rules, cut_switch)
 
 pub cut_off-hang-requires : goal.cut_off-hang-requires
 cut_off-hang-requires t c = search (rules, cut_hangs)
@@ -51,20 +48,11 @@ hang-returns-then-self-at t c = search (rules, hung_past)
 pub hang-returns-in_default : goal.hang-returns-in_default
 hang-returns-in_default t c = search (rules, hung_last)
 
-pub hang-offset_bounds-self-j : goal.hang-offset_bounds-self-j
-hang-offset_bounds-self-j t c = omega (arith, hang_fits c.requires c.in-Some.is)
-
 pub hang-bounds-self-j : goal.hang-bounds-self-j
 hang-bounds-self-j t c = omega (arith, hang_fits c.requires c.in-Some.is)
 
-pub hang-offset_bounds-self-j-2 : goal.hang-offset_bounds-self-j-2
-hang-offset_bounds-self-j-2 t c = omega (arith, hang_fits c.requires c.in-Some.is)
-
 pub hang-bounds-self-j-2 : goal.hang-bounds-self-j-2
 hang-bounds-self-j-2 t c = omega (arith, hang_fits c.requires c.in-Some.is)
-
-pub hang-offset_bounds-self-j-3 : goal.hang-offset_bounds-self-j-3
-hang-offset_bounds-self-j-3 t c = omega (arith, hang_fits c.requires c.in-Some.is)
 
 pub hang-bounds-self-j-3 : goal.hang-bounds-self-j-3
 hang-bounds-self-j-3 t c = omega (arith, hang_fits c.requires c.in-Some.is)
