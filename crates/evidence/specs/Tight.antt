@@ -16,14 +16,15 @@ use Rattle.orders.specs.Orders.{size}
 use Rattle.orders.specs.Laws.Walk.{the_tree}
 use Rattle.walk.specs.Tree.{room_of, Walked}
 use Rattle.walk.specs.declared.counts.Counts.{Counts}
+use Rattle.services.specs.Refusals.{number_of}
 use Rattle.services.specs.Replay.{ReplayPromise}
 use Rattle.services.specs.Judge.{JudgePromise}
 use Rattle.services.specs.Tree.{TreePromise}
 use Rattle.services.specs.declared.refusal.Refusal.{Refusal}
 use Rattle.services.proofs.Once.{same, replay_once, judge_once, tree_once}
-use Rattle.vlodenka.specs.Answers.{number_of, counts_of, Replays, Judges, Draws, Places}
+use Rattle.vlodenka.specs.Answers.{counts_of, Replays, Judges, Draws, Places}
 
--- Table::new, Table::read, Table::extent; u32::from of a Fault, a Kind or a Refusal; Jobs::*, Accepted::ready_key, Accepted::total_segments, Accepted::leave_kind, words::write; lines::listing
+-- Table::new, Table::read, Table::extent; u32::from of a Fault, a Kind or a Refusal; services::number_of; Jobs::*, Accepted::ready_key, Accepted::total_segments, Accepted::leave_kind, words::write; lines::listing
 pub equation_once : {A : Type 0} {r s x : A} → r ≡ x → s ≡ x → r ≡ s
 equation_once p q = p ∙ sym q
 

@@ -1,12 +1,12 @@
 -- A log of entries read off entry by entry.
-use Rattle.std.proofs.Common.{◌≡◌, ℕ, zero, suc, ◌+◌, ◌*◌, ◌/◌, ◌<◌, ◌≤◌, List, [], ◌∷◌, ◌++◌, length, get_or, drop, replicate, sym, refl, ap, ◌∙◌, add-one, arith, length-append, length-drop, get_or-drop, drop-drop}
-use Rattle.std.proofs.Math.ListN.{length-replicate, get_or-append}
-use Rattle.std.proofs.Math.Seq.{drop-append_seam}
+use Rattle.std.proofs.Common.{◌≡◌, ℕ, zero, suc, ◌+◌, ◌*◌, ◌/◌, ◌<◌, ◌≤◌, List, [], ◌∷◌, ◌++◌, length, get_or, drop, replicate, sym, refl, ap, ◌∙◌, add-one, arith, length-drop, get_or-drop, get_or-take, drop-drop}
+use Rattle.std.proofs.Math.ListN.{length-replicate}
+use Rattle.std.specs.Simd.{first_chunks}
 use Rattle.kernel.specs.declared.jobs.Jobs.{Jobs}
 use Rattle.kernel.specs.Rules.{JobSet}
 use Rattle.kernel.specs.Held.{set_of, Loaded}
 use Rattle.kernel.specs.Laws.Times.{Entry, Reading, unread, read_on, read_all}
-use Rattle.services.specs.Told.{Heard, credited, ran_next, hearing, heard, times_told, entry_words, entries_words, TellsTimes}
+use Rattle.services.specs.Told.{credited, ran_next, hearing, heard, times_told, entry_words, entries_words, TellsTimes}
 use Rattle.services.specs.declared.told.Ran.{Ran}
 use Rattle.services.proofs.Credits.{credit_length}
 use Rattle.services.proofs.Telling.{Follows, follows_none, follows_next}
@@ -107,32 +107,31 @@ pub heard_none : (w : Jobs) (log : List ℕ) (jobs : ℕ) → jobs ≡ (set_of w
 unfolding heard
 heard_none w log jobs e = rw e
 
-pub heard_more : (w : Jobs) (log times more : List ℕ) (ran next : Ran) (i tick job segment : ℕ) → heard w log i ≡ record { times = times; ran = ran }
+heard_more : (w : Jobs) (log times more : List ℕ) (ran next : Ran) (i tick job segment : ℕ) → heard w log i ≡ record { times = times; ran = ran }
     → tick ≡ get_or log (4 * i + 1) 0 → job ≡ get_or log (4 * i + 2) 0 → segment ≡ get_or log (4 * i + 3) 0
     → more ≡ credited w ran tick times → next ≡ ran_next w tick job segment → heard w log (i + 1) ≡ record { times = more; ran = next }
 unfolding heard
 heard_more w log times more ran next i tick job segment h et ej es em en =
     rw (add-one i) (ap (hearing w log i) h ∙ rw (em, en, et, ej, es))
 
--- where the switches are taken from the words that are left to read
-pub heard_next : (w : Jobs) (log times more left item rest : List ℕ) (ran next : Ran) (i : ℕ) → heard w log i ≡ record { times = times; ran = ran }
-    → left ≡ drop (4 * i) log → left ≡ item ++ rest → length item ≡ 4
-    → more ≡ credited w ran (get_or item 1 0) times → next ≡ ran_next w (get_or item 1 0) (get_or item 2 0) (get_or item 3 0)
-    → (heard w log (i + 1) ≡ record { times = more; ran = next }) × (rest ≡ drop (4 * (i + 1)) log) × (4 * (i + 1) ≤ length log)
-heard_next w log times more left item rest ran next i h d e n em en =
-    let word : (k : ℕ) → k < 4 → get_or item k 0 ≡ get_or log (4 * i + k) 0
-    = λ k q. sym (get_or-append item rest 0 k (omega arith)) ∙ ap (λ (l : List ℕ). get_or l k 0) (sym e ∙ d) ∙ get_or-drop (4 * i) log k 0 in
-    let z : 4 * (i + 1) ≡ 4 * i + 4 = omega arith in (
-      heard_more w log times more ran next i _ _ _ h (word 1 (omega arith)) (word 2 (omega arith)) (word 3 (omega arith)) em en,
-      rw z (sym (drop-append_seam item rest) ∙ ap (λ (m : ℕ). drop m (item ++ rest)) n ∙ ap (drop 4) (sym e ∙ d) ∙ drop-drop 4 (4 * i) log),
-      omega (arith, n, ap length d, ap length e, length-append item rest, length-drop (4 * i) log),
-    )
+-- a word of a log taken four by four
+pub word_in : (log : List ℕ) (n i k : ℕ) → i < n → k < 4 → get_or (get_or (first_chunks 4 n log) i []) k 0 ≡ get_or log (4 * i + k) 0
+word_in log zero i k h q = absurd (omega arith)
+word_in log (suc n) zero k h q =
+    let z : 4 * 0 + k ≡ k = omega arith in
+    get_or-take 4 log k 0 q ∙ ap (λ (m : ℕ). get_or log m 0) (sym z)
+word_in log (suc n) (suc i) k h q =
+    let z : 4 * suc i + k ≡ 4 + (4 * i + k) = omega arith in
+    word_in (drop 4 log) n i k (omega arith) q ∙ get_or-drop 4 log (4 * i + k) 0 ∙ ap (λ (m : ℕ). get_or log m 0) (sym z)
 
-pub heard_all : (w : Jobs) (log times left : List ℕ) (ran : Ran) (i : ℕ) → heard w log i ≡ record { times = times; ran = ran } → left ≡ drop (4 * i) log
-    → 4 * i ≤ length log → length left < 4 → times ≡ times_told w log
-heard_all w log times left ran i h d q r =
-    let z : length log / 4 ≡ i = omega (arith, ap length d, length-drop (4 * i) log) in
-    sym (ap (λ (x : Heard). x.times) h) ∙ ap (λ (n : ℕ). (heard w log n).times) (sym z)
+pub heard_next : (w : Jobs) (log times more : List ℕ) (switches : List (List ℕ)) (ran next : Ran) (i : ℕ) → switches ≡ first_chunks 4 (length log / 4) log
+    → length switches ≡ length log / 4 → i < length switches → heard w log i ≡ record { times = times; ran = ran } → more ≡ credited w ran (get_or (get_or switches i []) 1 0) times
+    → next ≡ ran_next w (get_or (get_or switches i []) 1 0) (get_or (get_or switches i []) 2 0) (get_or (get_or switches i []) 3 0)
+    → heard w log (i + 1) ≡ record { times = more; ran = next }
+heard_next w log times more switches ran next i e z h d em en =
+    let word : (k : ℕ) → k < 4 → get_or (get_or switches i []) k 0 ≡ get_or log (4 * i + k) 0
+    = λ k q. rw e (word_in log (length log / 4) i k (omega arith) q) in
+    heard_more w log times more ran next i _ _ _ d (word 1 (omega arith)) (word 2 (omega arith)) (word 3 (omega arith)) em en
 
 -- they are those that its entries tell
 pub told_tells : (w : Jobs) (log : List ℕ) → Loaded w → TellsTimes w log (times_told w log)

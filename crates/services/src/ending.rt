@@ -12,6 +12,7 @@ fn longest_work(set: &Accepted, i: usize) -> u32
     requires { i < (set_of set.now.jobs).jobs }
     ensures { result ≡ work (set_of set.now.jobs) (set_of set.now.jobs).longest i }
 {
+    // A loop: no proof closed over `map` and `sum`, which asks that the total of every run over the range fits a word.
     let mut total = 0;
     for k in 0..set.jobs.segments(i) {
         total += set.jobs.longest(i, k);
@@ -35,6 +36,7 @@ fn done(before: u32, release: u32, work: u32) -> u32
 pub fn last_end(set: &Accepted) -> u32
     ensures { result ≡ last_end (set_of set.now.jobs) }
 {
+    // A loop: no proof closed over `fold`, which asks of every total on the way what `done` asks.
     let mut end = 0;
     for i in 0..set.jobs.jobs() {
         end = done(end, set.jobs.release(i), longest_work(set, i));

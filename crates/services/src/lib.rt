@@ -17,7 +17,7 @@ mod told;
 
 use kernel::accepted::Accepted;
 use log::Log;
-pub use refusal::Refusal;
+pub use refusal::{Refusal, number_of};
 use runnable::Runnable;
 pub use walk::counts::Counts;
 

@@ -8,7 +8,8 @@ ghost use Rattle.services.specs.Replay.{log_in};
 use kernel::accepted::Accepted;
 use std::marker::Model;
 
-// A length stands beside the words since nothing may allocate: a run has at most 96 switches, of four words each.
+// A length stands beside the words since nothing may allocate: a run has at most 96 switches, of four words each. The words are lent to the kernel whole, and
+// the Model says of them and the length what an `ArrayVec` made from them would.
 #[derive(Drop)]
 pub struct Log {
     words: [u32; 384],

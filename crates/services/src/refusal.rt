@@ -1,6 +1,6 @@
 // Why a call declines.
 ghost use Rattle.std.specs.Prelude.{◌≡◌};
-ghost use Rattle.services.specs.Refusals.{refusal_number};
+ghost use Rattle.services.specs.Refusals.{refusal_number, number_of};
 ghost use Rattle.services.specs.declared.refusal.Refusal.TheVariants.{Table};
 
 use table::{Fault, Refused};
@@ -38,5 +38,15 @@ impl From<Refused> for Refusal {
 
     fn from(refused: Refused) -> Refusal {
         Refusal::Table(refused.fault)
+    }
+}
+
+// An answer as a number: 0, or the refusal's.
+pub fn number_of<A: Copy>(answer: Result<A, Refusal>) -> u32
+    ensures { result ≡ number_of answer }
+{
+    match answer {
+        Ok(_) => 0,
+        Err(refusal) => u32::from(refusal),
     }
 }

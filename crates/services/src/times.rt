@@ -1,4 +1,4 @@
-// One time per segment in table order, each within its bounds.
+// One time per segment in table order, each within its bounds. The set stays, and times are a caller's or a log's: two parameters, and no struct.
 ghost use Rattle.std.specs.Prelude.{◌↔◌, IsTrue};
 ghost use Rattle.kernel.specs.Held.{set_of};
 ghost use Rattle.services.specs.Times.{Fit, FitJob, FitJobs};
@@ -11,11 +11,11 @@ fn fit_job(set: &Accepted, times: &[u32], i: usize) -> bool
 {
     (0..set.jobs.segments(i)).all(|k| {
         let time = set.jobs.time(times, i, k);
-        set.jobs.shortest(i, k) <= time && time <= set.jobs.longest(i, k)
+        (set.jobs.shortest(i, k)..=set.jobs.longest(i, k)).contains(&time)
     })
 }
 
-// All of them are.
+// The times of the segments of every job are within their bounds.
 pub fn fit_jobs(set: &Accepted, times: &[u32]) -> bool
     ensures { IsTrue result ↔ FitJobs set.now.jobs times.now }
 {

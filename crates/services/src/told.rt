@@ -5,7 +5,7 @@ ghost use Rattle.services.specs.Told.{credited, ran_next, times_told};
 use kernel::accepted::Accepted;
 
 // What ran last, and since when.
-#[derive(Clone, Copy)]
+#[derive(Clone, Copy, Debug, PartialEq, Eq)]
 pub struct Ran {
     pub job: usize,
     pub segment: u32,
@@ -36,19 +36,21 @@ fn next(set: &Accepted, tick: u32, job: u32, segment: u32) -> Ran
     }
 }
 
+#[tactic(auto, using(crate::proofs::Entries::heard_none))]
 pub fn times(set: &Accepted, log: &[u32]) -> [u32; 64]
     ensures { result ≡ times_told set.now.jobs log.now }
 {
     let mut times = [0; 64];
+    // Nothing ran before the first switch: its job is the number of jobs, as `heard` in specs/Told.antt begins.
     let mut ran = Ran {
         job: set.jobs.jobs(),
         segment: 0,
         since: 0,
     };
-    for switch in log.chunks_exact(4) {
-        let tick = switch[1];
+    let (switches, _) = log.as_chunks::<4>();
+    for &[_, tick, job, segment] in switches {
         credit(set, &mut times, ran, tick);
-        ran = next(set, tick, switch[2], switch[3]);
+        ran = next(set, tick, job, segment);
     }
     times
 }

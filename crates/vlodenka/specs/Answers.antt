@@ -1,18 +1,13 @@
 -- What the C functions promise: what the services promise, with the answer's parts where C has them.
-use Rattle.std.specs.Prelude.{ℕ, min, ◌≡◌, List, Result, Ok, Err}
+use Rattle.std.specs.Prelude.{ℕ, min, ◌≡◌, List, Result}
 use Rattle.std.specs.Result.{result_unwrap_or}
 use Rattle.table.specs.Part.{start_of, length_of}
 use Rattle.services.specs.declared.Counts.{Counts}
 use Rattle.services.specs.declared.refusal.Refusal.{Refusal}
-use Rattle.services.specs.Refusals.{refusal_number}
+use Rattle.services.specs.Refusals.{number_of}
 use Rattle.services.specs.Replay.{ReplayPromise}
 use Rattle.services.specs.Judge.{JudgePromise}
 use Rattle.services.specs.Tree.{TreePromise}
-
--- 0, or the refusal's number
-abbrev pub number_of : {A : Type 0} → Result A Refusal → ℕ
-number_of (Ok x) = 0
-number_of (Err e) = refusal_number e
 
 -- of a tree: none with a refusal
 abbrev pub counts_of : Result Counts Refusal → Counts

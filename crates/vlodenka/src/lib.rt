@@ -3,20 +3,10 @@
 #![tactic(auto)]
 
 ghost use Rattle.std.specs.Prelude.{◌≡◌, min};
-ghost use Rattle.vlodenka.specs.Answers.{number_of, Replays, Judges, Draws, Places};
+ghost use Rattle.vlodenka.specs.Answers.{Replays, Judges, Draws, Places};
 
-use services::Refusal;
+use services::number_of;
 use table::Table;
-
-// What every function answers, as a number since C has no enum of an answer's kind.
-fn number_of<A: Copy>(answer: Result<A, Refusal>) -> u32
-    ensures { result ≡ number_of answer }
-{
-    match answer {
-        Ok(_) => 0,
-        Err(refusal) => u32::from(refusal),
-    }
-}
 
 // A table longer than any table can be may end beyond the largest number of 32 bits: then that is shown.
 fn narrow(n: usize) -> u32
