@@ -1,11 +1,11 @@
 -- The lock names as the code holds them: a slice of the text for each.
 use Rattle.std.specs.Prelude.{ℕ, ◌≡◌, ◌<◌, length, true, false, List, map, Option, Some, None}
 use Rattle.std.specs.Borrow.{Bor}
-use Rattle.arrayvec.specs.ArrayVec.{ArrayVec}
 use Rattle.draft.specs.Locks.{most_locks, number_in, knowing, names_with, held_from, too_many}
+use Rattle.draft.specs.declared.locks.Names.{Names}
 
-abbrev pub known : ArrayVec (Bor (List ℕ)) → List (List ℕ)
-known names = map (λ (name : Bor (List ℕ)). name.now) names.items
+abbrev pub known : Names → List (List ℕ)
+known names = map (λ (name : Bor (List ℕ)). name.now) names.names.items
 
 -- the number of a name, and the names after it, where these are known before it; none where there is no room for one more
 abbrev pub NumberIs : (names after : List (List ℕ)) → List ℕ → Option ℕ → Type 0

@@ -1,8 +1,12 @@
 pub mod Runs
+pub mod Stores
+pub mod Same
 pub mod Lexing
 pub mod Digits
 pub mod Bits
 pub mod Knowing
+pub mod Lines
+pub mod SegmentLines
 pub mod ReadBack
 pub mod Records
 pub mod Drafting

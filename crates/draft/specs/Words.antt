@@ -1,5 +1,5 @@
 -- The words of a text: a line ends with a newline, its words are separated by white space, and `#` starts a comment.
-use Rattle.std.specs.Prelude.{ℕ, suc, List, [], ◌∷◌, ◌++◌, Bool, true, false, cond, not, ◌||◌, eqb}
+use Rattle.std.specs.Prelude.{ℕ, suc, ◌<◌, ◌≡◌, List, [], ◌∷◌, ◌++◌, Bool, true, false, cond, not, ◌||◌, drop, eqb}
 use Rattle.std.specs.List.{slice_split}
 use Rattle.std.specs.Str.{bytes_eq}
 
@@ -13,6 +13,9 @@ is_ending b = eqb b 10 || eqb b 35
 
 abbrev pub is_wordly : ℕ → Bool
 is_wordly b = not (is_white b || is_ending b)
+
+abbrev pub is_in_line : ℕ → Bool
+is_in_line b = not (eqb b 10)
 
 -- a word that is complete; nothing where it has no byte
 abbrev pub closed : List ℕ → List (List ℕ)
@@ -54,3 +57,8 @@ same = bytes_eq
 unfoldable pub run : (ℕ → Bool) → List ℕ → ℕ
 run test [] = 0
 run test (x ∷ xs) = cond (test x) (suc (run test xs)) 0
+
+-- at `end` the first word after `at` is passed, if there is one
+pub record Passed (s : List ℕ) (at end : ℕ) : Type 0 where
+  pub rest : words_of (drop end s) ≡ others (words_of (drop at s))
+  pub further : none (words_of (drop at s)) ≡ false → at < end

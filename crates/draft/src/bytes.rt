@@ -3,6 +3,7 @@ ghost use Rattle.std.specs.Prelude.{◌≡◌};
 ghost use Rattle.draft.specs.Bytes.{record_bytes};
 ghost use Rattle.table.specs.declared.records.Record.TheVariants.{Frame, Job, Segment};
 
+#[tactic(auto, unfolding(crate::specs::Bytes::record_bytes))]
 pub fn frame(ticks: u32) -> [u8; 6]
     ensures { result ≡ record_bytes (Frame ticks) }
 {
@@ -11,6 +12,7 @@ pub fn frame(ticks: u32) -> [u8; 6]
 }
 
 // A job that has no segment yet.
+#[tactic(auto, unfolding(crate::specs::Bytes::record_bytes))]
 pub fn job(release: u32, priority: u8) -> [u8; 8]
     ensures { result ≡ record_bytes (Job release priority 0) }
 {
@@ -18,6 +20,7 @@ pub fn job(release: u32, priority: u8) -> [u8; 8]
     [b'J', b'B', a, b, c, d, priority, 0]
 }
 
+#[tactic(auto, unfolding(crate::specs::Bytes::record_bytes))]
 pub fn segment(shortest: u32, longest: u32, held: u16) -> [u8; 12]
     ensures { result ≡ record_bytes (Segment shortest longest held) }
 {

@@ -2,6 +2,7 @@
 ghost use Rattle.std.specs.Prelude.{◌≡◌, Some};
 ghost use Rattle.draft.specs.Cause.{cause_number, cause_text};
 
+use std::error::Error;
 use std::fmt;
 use table::Fault;
 
@@ -21,7 +22,7 @@ pub enum Cause {
     Table(Fault),
 }
 
-// A cause, and the line where it arose.
+// A cause, and the line where it arose: a line of the text, where a table's `Refused` has a place in bytes.
 #[derive(Clone, Copy, Debug, PartialEq, Eq)]
 pub struct Refused {
     pub cause: Cause,
@@ -76,3 +77,5 @@ impl fmt::Display for Cause {
         })
     }
 }
+
+impl Error for Cause {}

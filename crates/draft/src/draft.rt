@@ -50,7 +50,7 @@ impl<'a> Draft<'a> {
         }
     }
 
-    // Refused at the line read last.
+    // A refusal at the line read last.
     fn refused(&self, cause: Cause) -> Refused
         ensures { result ≡ record { cause = cause; line = self.now.line } }
     {
@@ -60,7 +60,7 @@ impl<'a> Draft<'a> {
         }
     }
 
-    // A last job needs a segment.
+    // The last job needs a segment.
     fn no_bare_job(&self) -> Result<(), Refused>
         ensures { MatchResult result (λ _. bare_line self.now.job ≡ None) (λ e. (e.cause ≡ Cause.SegmentCount) × (bare_line self.now.job ≡ Some e.line)) }
     {
@@ -73,7 +73,7 @@ impl<'a> Draft<'a> {
         }
     }
 
-    // The bytes of one record more, where there is room.
+    // Adds the bytes of one record, where there is room.
     fn push(&mut self, part: &[u8]) -> Result<(), Refused>
         requires { 0 < length part.now }
         ensures { MatchResult result (λ _. Pushed self.old part.now self.new) (λ e. (e ≡ record { cause = Cause.TooLong; line = self.old.line }) × (4096 < size self.old + length part.now)) }
@@ -132,7 +132,7 @@ impl<'a> Draft<'a> {
         Ok(())
     }
 
-    // One line more.
+    // Reads one line more.
     fn read(&mut self, text: &'a [u8]) -> Result<(), Refused>
         ensures { Follows self.old self.new result (read_line (next_line self.old.line) (words_of text.now)) }
     {

@@ -1,28 +1,28 @@
 // What one line of a text says.
-ghost use Rattle.std.specs.Prelude.{◌≡◌, ◌<◌, ◌≤◌, ◌+◌, true, false, length, Some, None, MatchResult};
+ghost use Rattle.std.specs.Prelude.{◌≡◌, ◌<◌, true, false, length, Some, None, MatchResult};
 ghost use Rattle.draft.specs.Words.{words_of, first, others, none, same};
 ghost use Rattle.draft.specs.Numbers.{number_of};
-ghost use Rattle.draft.specs.Locks.{most_locks};
 ghost use Rattle.draft.specs.Known.{known};
 ghost use Rattle.draft.specs.Forms.{frame_says, job_says, holds_says, segment_says, line_says, with_names};
 
 use crate::cause::Cause;
 use crate::locks::Names;
-use crate::{locks, text};
+use crate::text;
 
+// Other than a record of a table, a line may have no word, and does not say how many segments a job has.
 #[derive(Clone, Copy, Debug, PartialEq, Eq)]
 pub enum Line {
-    // No word.
+    // The line has no word.
     Nothing,
-    // The frame length.
+    // It says the length of a frame.
     Frame(u32),
-    // Release and priority.
+    // It says the release and the priority of a job.
     Job(u32, u8),
-    // Shortest, longest, held locks.
+    // It says the shortest and the longest time of a segment, and the locks that it holds.
     Segment(u32, u32, u16),
 }
 
-// The number that is due next, and what comes after it.
+// Reads the number that is due next, and answers what comes after it too.
 #[tactic(auto, unfolding(crate::specs::Numbers::number_of))]
 fn number(text: &[u8], most: u32) -> Result<(u32, &[u8]), Cause>
     ensures { MatchResult result (λ r. (number_of most (first (words_of text.now)) ≡ Some r.0) × (words_of r.1.now ≡ others (words_of text.now))) (λ e. (e ≡ Cause.BadNumber) × (number_of most (first (words_of text.now)) ≡ None)) }
@@ -32,7 +32,7 @@ fn number(text: &[u8], most: u32) -> Result<(u32, &[u8]), Cause>
     Ok((n, rest))
 }
 
-// What comes after the word that is due next.
+// Reads the word that is due next, and answers what comes after it.
 fn keyword<'a>(text: &'a [u8], key: &[u8]) -> Result<&'a [u8], Cause>
     requires { 0 < length key.now }
     ensures { MatchResult result (λ r. (same (first (words_of text.now)) key.now ≡ true) × (words_of r.now ≡ others (words_of text.now))) (λ e. (e ≡ Cause.BadWord) × (same (first (words_of text.now)) key.now ≡ false)) }
@@ -43,7 +43,7 @@ fn keyword<'a>(text: &'a [u8], key: &[u8]) -> Result<&'a [u8], Cause>
     }
 }
 
-// The line has no word more.
+// Asks that the line has no word more.
 fn end(text: &[u8]) -> Result<(), Cause>
     ensures { MatchResult result (λ _. none (words_of text.now) ≡ true) (λ e. (e ≡ Cause.Trailing) × (none (words_of text.now) ≡ false)) }
 {
@@ -62,7 +62,7 @@ fn frame(text: &[u8]) -> Result<Line, Cause>
     Ok(Line::Frame(ticks))
 }
 
-// From the name on.
+// Reads a job's line from the job's name on.
 #[tactic(auto, using(crate::specs::Laws::Digits::number_most), unfolding(crate::specs::Forms::job_says, crate::specs::Forms::release_says, crate::specs::Forms::priority_says))]
 fn job(text: &[u8]) -> Result<Line, Cause>
     ensures { result ≡ job_says (words_of text.now) }
@@ -71,12 +71,12 @@ fn job(text: &[u8]) -> Result<Line, Cause>
     let text = keyword(text, b"release")?;
     let (release, text) = number(text, u32::MAX)?;
     let text = keyword(text, b"priority")?;
-    let (priority, text) = number(text, 255)?;
+    let (priority, text) = number(text, u32::from(u8::MAX))?;
     end(text)?;
     Ok(Line::Job(release, priority as u8))
 }
 
-// From after the longest time on.
+// Reads a segment's line from after its longest time on.
 #[tactic(auto, unfolding(crate::specs::Forms::holds_says, crate::specs::Forms::held_says))]
 fn holds<'a>(
     text: &'a [u8],
@@ -84,7 +84,7 @@ fn holds<'a>(
     shortest: u32,
     longest: u32,
 ) -> Result<Line, Cause>
-    ensures { length (known names.old) ≤ most_locks → with_names result (known names.new) ≡ holds_says (known names.old) shortest longest (words_of text.now) }
+    ensures { with_names result (known names.new) ≡ holds_says (known names.old) shortest longest (words_of text.now) }
 {
     if text::next_word(text).is_none() {
         return Ok(Line::Segment(shortest, longest, 0));
@@ -93,28 +93,29 @@ fn holds<'a>(
     if text::next_word(text).is_none() {
         return Err(Cause::BadWord);
     }
-    let held = locks::held_by(names, text).ok_or(Cause::TooManyLocks)?;
+    let held = names.held_by(text).ok_or(Cause::TooManyLocks)?;
     Ok(Line::Segment(shortest, longest, held))
 }
 
-// From the shortest time on.
+// Reads a segment's line from its shortest time on.
 #[tactic(auto, unfolding(crate::specs::Forms::segment_says))]
 fn segment<'a>(text: &'a [u8], names: &mut Names<'a>) -> Result<Line, Cause>
-    ensures { length (known names.old) ≤ most_locks → with_names result (known names.new) ≡ segment_says (known names.old) (words_of text.now) }
+    ensures { with_names result (known names.new) ≡ segment_says (known names.old) (words_of text.now) }
 {
     let (shortest, text) = number(text, u32::MAX)?;
     let (longest, text) = number(text, u32::MAX)?;
     holds(text, names, shortest, longest)
 }
 
-// A line, which adds the lock names that it brings to those known.
+// Reads a line, and adds the lock names that it brings to those known.
 #[tactic(auto, unfolding(crate::specs::Forms::line_says))]
 pub fn read_line<'a>(text: &'a [u8], names: &mut Names<'a>) -> Result<Line, Cause>
-    ensures { length (known names.old) ≤ most_locks → with_names result (known names.new) ≡ line_says (known names.old) (words_of text.now) }
+    ensures { with_names result (known names.new) ≡ line_says (known names.old) (words_of text.now) }
 {
     let Some((word, text)) = text::next_word(text) else {
         return Ok(Line::Nothing);
     };
+    // Tests one after the other: no proof closed over a `match` on byte strings with these arms and one for any other word.
     if word == b"frame".as_slice() {
         return frame(text);
     }

@@ -3,7 +3,7 @@ ghost use Rattle.std.specs.Prelude.{◌≡◌, ℕ, ◌+◌, ◌*◌, ◌-◌, �
 ghost use Rattle.draft.specs.Words.{is_white, is_ending, is_wordly, run, words_of};
 ghost use Rattle.draft.specs.Numbers.{is_digit, within, number_of};
 
-// Space, tab or carriage return.
+// White space is a space, a tab or a carriage return.
 fn is_white(b: u8) -> bool
     ensures { result ≡ is_white b }
 {
@@ -62,9 +62,5 @@ pub fn number_in(word: &[u8], most: u32) -> Option<u32>
     if word.is_empty() {
         return None;
     }
-    let mut n = 0;
-    for b in word {
-        n = longer(n, *b, most)?;
-    }
-    Some(n)
+    word.iter().try_fold(0, |n, b| longer(n, *b, most))
 }

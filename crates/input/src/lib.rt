@@ -16,6 +16,7 @@ pub fn read_full<R: Read>(input: &mut R, buffer: &mut [u8]) -> io::Result<usize>
     ensures err { OnErr result ((n : ℕ) × Consumes (R.remaining input.old) (R.remaining input.new) (take n buffer.new)) }
 {
     let mut n: usize = 0;
+    // A loop by place: it steps by what a read gives.
     while n < buffer.len() {
         match input.read(&mut buffer[n..])? {
             0 => return Ok(n),

@@ -1,8 +1,8 @@
 -- What a writer's methods write: `Put` and `Word`, at the end of its text so far.
-use Rattle.std.specs.Prelude.{ℕ, ◌+◌, ◌<◌, ◌≤◌, ◌≡◌, refl, List, [], ◌∷◌, ◌++◌, length, take, get_or}
+use Rattle.std.specs.Prelude.{ℕ, ◌≤◌, ◌≡◌, refl, List, [], ◌∷◌, ◌++◌, length}
 use Rattle.std.proofs.Common.{arith, ◌∙◌}
 use Rattle.lines.specs.Text.{line}
-use Rattle.lines.specs.Put.{Put, Word, put_none, put_then, put_byte, line_word, line_last}
+use Rattle.lines.specs.Put.{Put, Word, put_none, put_then, line_word, line_last}
 use Rattle.lines.specs.declared.writer.Writer.{Writer}
 
 -- the text stands at the end of the text so far, and the buffer is the same
@@ -22,10 +22,6 @@ writes_none a = record { put = put_none a.out.now a.length; same = refl }
 -- one text after the other
 pub writes_then : {a b c : Writer} {s t : List ℕ} → Writes a s b → Writes b t c → Writes a (s ++ t) c
 writes_then p q = record { put = put_then p.put q.put; same = q.same ∙ p.same }
-
--- one byte more of a text that is written byte by byte
-pub writes_byte : (s : List ℕ) (n : ℕ) → n < length s → {a b c : Writer} → Writes a (take n s) b → Writes b (get_or s n 0 ∷ []) c → Writes a (take (n + 1) s) c
-writes_byte s n h p q = record { put = put_byte s n h p.put q.put; same = q.same ∙ p.same }
 
 -- a word, and the byte that ends it
 pub writes_word : {a b c : Writer} {s : List ℕ} {end : ℕ} → length s ≤ 10 → Writes a s b → Writes b (end ∷ []) c → WritesWord a s end c

@@ -3,7 +3,7 @@
 
 ghost use Rattle.std.specs.Prelude.{◌≡◌, ◌+◌, ◌*◌, ◌^◌, ◌<◌, ◌≤◌, length};
 ghost use Rattle.std.proofs.lemmas.List.Edits.{sets};
-ghost use Rattle.lines.specs.Text.{row_at, node_line, head_line, refused_line, listing_of};
+ghost use Rattle.lines.specs.Text.{node_line, head_line, refused_line, listing_of};
 ghost use Rattle.lines.specs.Writer.{Writes};
 
 mod row;
@@ -46,7 +46,7 @@ fn refused(text: &mut Writer<'_>, refusal: u32)
     text.number(refusal, b'\n');
 }
 
-// The whole listing, or the line of a refusal.
+// The whole listing, or the line of a refusal. Its four parameters are the answer's, as `listing` takes it.
 fn write_listing(text: &mut Writer<'_>, refusal: u32, nodes: u32, orders: u32, words: &[u32])
     requires { text.old.length + 100 * (nodes + 1) < 2 ^ 64 }
     ensures { Writes text.old (listing_of refusal nodes orders words.now) text.new }
@@ -61,7 +61,7 @@ fn write_listing(text: &mut Writer<'_>, refusal: u32, nodes: u32, orders: u32, w
 }
 
 // The listing of a tree's answer: refusal, nodes, orders, and the words of the nodes. Answers the length of the text, also where the buffer is
-// shorter and holds only its beginning.
+// shorter and holds only its beginning. A refusal is a number and no enum: `listing_of` has a line for any number but 0.
 pub fn listing(refusal: u32, nodes: u32, orders: u32, words: &[u32], out: &mut [u8]) -> usize
     ensures value { (result ≡ length (listing_of refusal nodes orders words.now)) × (out.new ≡ sets out.old 0 (listing_of refusal nodes orders words.now)) }
     ensures short { result ≤ 100 * (nodes + 1) }

@@ -2,9 +2,10 @@
 ghost use Rattle.std.specs.Prelude.{◌≡◌};
 ghost use Rattle.lines.specs.Text.{row_at};
 
-#[derive(Clone, Copy)]
+#[derive(Clone, Copy, Debug, PartialEq, Eq)]
 pub struct Row {
     pub parent: u32,
+    // A number and no enum: a word that no tree has here is shown as its number (`kind_word`).
     pub kind: u32,
     pub job: u32,
     pub segment: u32,
@@ -19,6 +20,7 @@ impl Row {
     pub fn at(words: &[u32], i: u32) -> Row
         ensures { result ≡ row_at words.now i }
     {
+        // Word by word and not by chunks: where the words end within a node, the rest of it is 0.
         let first = 8 * i as usize;
         let word = |k: usize| words.get(first + k).copied().unwrap_or(0);
         Row {

@@ -1,5 +1,5 @@
-// Words written into a lent buffer, as far as it goes.
-ghost use Rattle.std.specs.Prelude.{◌∷◌, [], ◌+◌, ◌^◌, ◌<◌, ◌≤◌, length};
+// Words written into a lent buffer, as far as it goes: byte for byte, as `listing` promises, and so not by `write!`.
+ghost use Rattle.std.specs.Prelude.{◌+◌, ◌^◌, ◌<◌, ◌≤◌, length};
 ghost use Rattle.lines.specs.Text.{decimal, shown, kind_word};
 ghost use Rattle.lines.specs.Writer.{Writes, WritesWord};
 
@@ -16,23 +16,14 @@ pub struct Writer<'a> {
 }
 
 impl Writer<'_> {
-    fn byte(&mut self, b: u8)
-        requires { self.old.length + 1 < 2 ^ 64 }
-        ensures { Writes self.old (b ∷ []) self.new }
-    {
-        if self.length < self.out.len() {
-            self.out[self.length] = b;
-        }
-        self.length += 1;
-    }
-
     fn text(&mut self, s: &[u8])
         requires { self.old.length + length s.now < 2 ^ 64 }
         ensures { Writes self.old s.now self.new }
     {
-        for b in s {
-            self.byte(*b);
-        }
+        let start = self.length.min(self.out.len());
+        let part = s.len().min(self.out.len() - start);
+        self.out[start..start + part].copy_from_slice(&s[..part]);
+        self.length += s.len();
     }
 
     // A word, and the byte that ends it.
@@ -41,7 +32,7 @@ impl Writer<'_> {
         ensures { WritesWord self.old s.now end self.new }
     {
         self.text(s);
-        self.byte(end);
+        self.text(&[end]);
     }
 
     #[tactic(auto, using(crate::specs::Digits::decimal_std))]
@@ -65,7 +56,7 @@ impl Writer<'_> {
         }
     }
 
-    // A kind, by its name.
+    // A kind, by its name; a number that is no kind by its digits, so it is taken as a number.
     #[tactic(auto, unfolding(crate::specs::Text::kind_word))]
     pub fn kind(&mut self, kind: u32, end: u8)
         requires { self.old.length + 11 < 2 ^ 64 }

@@ -1,14 +1,18 @@
 -- One line more in a draft: what the code does with its arrays is what the text's reading does with the records.
-use Rattle.std.specs.Prelude.{ℕ, ◌+◌, ◌<◌, ◌≡◌, refl, Bool, true, false, cond, eqb, ltb, Option, Some, None}
+use Rattle.std.specs.Prelude.{ℕ, ◌+◌, ◌<◌, ◌≡◌, refl, Bool, true, false, cond, eqb, ltb, Option, Some, None, Result, Ok, Err}
 use Rattle.std.proofs.Common.{arith, ◌∙◌, ap, eq-eqb, ne_eqb, lt-ltb}
 use Rattle.std.proofs.Math.Path.{sym}
 use mathlib.Core.List.{List, [], ◌∷◌, ◌++◌}
 use Rattle.std.proofs.Math.ListN.{length}
 use Rattle.draft.specs.Text.{Lined, Last, no_job, a_job, Draw, job_records, records_of, lined_bytes, size_so_far, refuse, drawn, empty, unless_bare, too_long, with_frame, with_job, add_segment, with_segment}
 use Rattle.draft.specs.LastJob.{bare_line}
-use Rattle.draft.specs.Drafts.{LastIs, Holds, size}
+use Rattle.draft.specs.Drafts.{LastIs, Holds, Told, size}
+use Rattle.draft.specs.Cause.{cause_number}
 use Rattle.draft.specs.Laws.Runs.{never}
+use Rattle.draft.specs.Laws.TextLines.{cause_some}
 use Rattle.draft.specs.Laws.Records.{size_none, size_some}
+use Rattle.draft.specs.declared.cause.Cause.{Cause}
+use Rattle.draft.specs.declared.cause.Refused.{Refused}
 use Rattle.draft.specs.declared.draft.LastJob.{LastJob}
 use Rattle.draft.specs.declared.draft.Draft.{Draft}
 use Rattle.table.specs.Records.{size_of}
@@ -50,6 +54,15 @@ bare_not job done no_job refused goes l e = refl
 bare_not None done (a_job n r p ss) refused goes l e = absurd l
 bare_not (Some job) done (a_job n r p []) refused goes l e = let some : Some job.line ≡ None = rw (eq-eqb job.segments 0 l.2) at e in cc
 bare_not (Some job) done (a_job n r p (s ∷ ss)) refused goes l e = refl
+
+-- ---- a text that is refused, and one that is not
+
+pub drawn_refused : (d : Draft) (cause : Cause) (n : ℕ) (x : Draw) → Told d (Err (record { cause = cause; line = n })) (refuse (cause_number cause) n x)
+drawn_refused d cause n x = (refl, refl)
+
+pub held : (d : Draft) (x : Draw) (result : Result (Unit {0}) Refused) → x.cause ≡ 0 → Told d result x → Holds d x
+held d x (Ok u) z h = h
+held d x (Err e) z h = absurd (omega (arith, cause_some e.cause, h.0, z))
 
 -- ---- the steps, on a line n that is refused
 

@@ -1,8 +1,10 @@
 -- The next word of a line, and the words after it.
-use Rattle.std.specs.Prelude.{ℕ, zero, suc, ◌<◌, ◌≡◌, refl, List, [], ◌∷◌, ◌++◌, Bool, true, false, cond, not, ◌||◌, take, drop, eqb}
-use Rattle.std.proofs.Common.{arith, sym, ◌∙◌, ap, append-nil, eqb-true}
+use Rattle.std.specs.Prelude.{ℕ, zero, suc, ◌+◌, ◌-◌, ◌<◌, ◌≤◌, ◌≡◌, refl, List, [], ◌∷◌, ◌++◌, Bool, true, false, cond, not, ◌||◌, length, take, drop, eqb}
+use Rattle.std.proofs.Common.{arith, sym, ◌∙◌, ap, append-nil, length-drop, drop_of_length-le, drop-drop, eqb-true}
+use Rattle.std.proofs.Math.Nat.{add-sub_cancel_left}
 use Rattle.std.proofs.Math.Seq.{append_snoc}
-use Rattle.draft.specs.Words.{is_white, is_ending, is_wordly, closed, words_from, words_of, run}
+use Rattle.std.proofs.Math.Dec.{eqb-suc-zero}
+use Rattle.draft.specs.Words.{is_white, is_ending, is_wordly, closed, words_from, words_of, first, others, none, run, Passed}
 use Rattle.draft.specs.Laws.Runs.{run_fits, never}
 
 -- white space ends no line
@@ -94,3 +96,60 @@ module _ (s t : List ℕ) (i k : ℕ) (white : i ≡ run is_white s) (word : k �
       go : (k : ℕ) → k ≡ run is_wordly t → 0 < k → words_of t ≡ take k t ∷ words_of (drop k t)
       go zero e h = absurd (omega arith)
       go (suc k) e h = first_word t k (sym e)
+
+-- ---- at a place of a text: the next word, and the words after it
+
+-- the next word, whose bytes begin at s, is the first, and the others stand after it
+record Split (s : List ℕ) (k : ℕ) : Type 0 where
+  one : take k s ≡ first (words_of s)
+  more : words_of (drop k s) ≡ others (words_of s)
+  empty : eqb (length (first (words_of s))) 0 ≡ none (words_of s)
+  further : none (words_of s) ≡ false → 0 < k
+
+split : (s : List ℕ) (k : ℕ) → run is_wordly s ≡ k → run is_white s ≡ 0 → Split s k
+split s zero e z =
+    let h : words_of s ≡ [] = no_word s z e in
+    record { one = rw h; more = rw h; empty = rw h; further = λ f. never (none (words_of s)) (rw h) f }
+split [] (suc k) e z = absurd (let h = run_fits is_wordly [] in omega arith)
+split (x ∷ xs) (suc k) e z =
+    let h : words_of (x ∷ xs) ≡ (x ∷ take k xs) ∷ words_of (drop k xs) = gathered [] (x ∷ xs) ∙ rw e in
+    record { one = rw h; more = rw h; empty = rw h (eqb-suc-zero (length (take k xs))); further = λ f. omega arith }
+
+-- white space ends at `start` and the word at `end`
+module _ (s : List ℕ) (at start end : ℕ) (white : start ≡ at + run is_white (drop at s)) (word : end ≡ start + run is_wordly (drop start s)) where
+  from_start : drop start s ≡ drop (run is_white (drop at s)) (drop at s)
+  from_start = rw (white, drop-drop)
+
+  words_same : words_of (drop at s) ≡ words_of (drop start s)
+  words_same = rw from_start (skip_white (drop at s))
+
+  parts : Split (drop start s) (run is_wordly (drop start s))
+  parts = split (drop start s) _ refl (rw from_start (run_ended is_white (drop at s)))
+
+  pub word_inside : at ≤ length s → end ≤ length s
+  word_inside h = omega (arith, white, word, run_fits is_white (drop at s), run_fits is_wordly (drop start s), length-drop at s, length-drop start s)
+
+  pub word_is : take (end - start) (drop start s) ≡ first (words_of (drop at s))
+  word_is = rw (word, add-sub_cancel_left, words_same) parts.one
+
+  pub passed : Passed s at end
+  passed = record {
+    rest = rw (word, ← drop-drop, words_same) parts.more;
+    further = λ f. omega (arith, white, word, parts.further (rw words_same at f));
+  }
+
+-- past the end of the text there is no word
+pub no_text : (s : List ℕ) (at : ℕ) → length s < at → [] ≡ first (words_of (drop at s))
+unfolding words_from
+no_text s at h = let h' : length s ≤ at = omega arith in rw (drop_of_length-le s h')
+
+pub none_is : (s : List ℕ) → eqb (length (first (words_of s))) 0 ≡ none (words_of s)
+none_is s = rw (skip_white s) (split (drop (run is_white s) s) _ refl (run_ended is_white s)).empty
+
+-- a word stands before the end of the text
+pub word_before_end : (s : List ℕ) (at : ℕ) → none (words_of (drop at s)) ≡ false → at < length s
+unfolding words_from
+word_before_end [] zero e = never true refl e
+word_before_end [] (suc at) e = never true refl e
+word_before_end (x ∷ xs) zero e = omega arith
+word_before_end (x ∷ xs) (suc at) e = let h = word_before_end xs at e in omega arith

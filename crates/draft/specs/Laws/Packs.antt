@@ -14,7 +14,9 @@ use Rattle.draft.specs.Laws.TextLines.{cause_some}
 use Rattle.draft.specs.declared.cause.Cause.TheVariants as Cause
 use Rattle.draft.specs.declared.cause.Refused.{Refused}
 use Rattle.draft.specs.declared.draft.Draft.{Draft}
-use Rattle.table.specs.Refusal.{refusal, outcome_of}
+use Rattle.table.specs.Refusal.{fault_number, refusal, outcome_of}
+use Rattle.table.specs.declared.Fault.{Fault}
+use Rattle.table.specs.declared.Fault.TheVariants.{Unreadable, OutOfBounds, OutOfOrder, Crowded}
 use Rattle.table.specs.declared.Table.{Table}
 use Rattle.table.specs.declared.Refused.{Refused as Declined}
 use Rattle.table.proofs.Whole.{ok_is, err_is}
@@ -35,6 +37,13 @@ pack_refused s before e r =
 pub part_written : (a k : ℕ) (xs ys zs : List ℕ) → k ≡ length zs → ys ≡ zs → a + length zs ≤ length xs → put_mid a k xs ys ≡ sets xs a zs
 part_written a k xs ys zs e f h = put_mid-paste a k xs ys zs (length zs) f (sym e) refl ∙ rw (sets-eq zs xs a h, take_all (length zs) zs (omega arith))
 
+-- there are four refusals of a table
+fault_small : (f : Fault) → fault_number f ≤ 4
+fault_small Unreadable = omega arith
+fault_small OutOfBounds = omega arith
+fault_small OutOfOrder = omega arith
+fault_small Crowded = omega arith
+
 module _ (s : List ℕ) (d : Draft) (h : Holds d (draw_of s)) where
   abbrev bytes : List ℕ
   bytes = lined_bytes (says_of s).records
@@ -43,6 +52,11 @@ module _ (s : List ℕ) (d : Draft) (h : Holds d (draw_of s)) where
   made_is : d.made.items ≡ bytes
   unfolding says_of
   made_is = h.bytes
+
+  pub pack_small : (part : List ℕ) (r : Declined) → part ≡ d.made.items → Err r ≡ outcome_of part → (fault_number r.fault ≡ (refusal bytes).number) × ((refusal bytes).number ≤ 4)
+  pack_small part r p e =
+      let is = err_is bytes r (e ∙ ap outcome_of (p ∙ made_is)) in
+      (is.1, rw (← is.1) (fault_small r.fault))
 
   pub pack_judged : (before part : List ℕ) (r : Declined) (line : ℕ) → part ≡ d.made.items → Err r ≡ outcome_of part → line ≡ or_last (get_or d.lines r.place 0) d.line
       → Gives before before (Err (record { cause = Cause.Table r.fault; line = line })) (pack_of s)

@@ -2,16 +2,17 @@
 use Rattle.std.specs.Prelude.{ℕ, ◌≡◌, refl, List, [], get_or, Some, None, Result, Ok, Err, MatchResult}
 use Rattle.std.proofs.Common.{ap, arith}
 use Rattle.std.proofs.Math.ListN.{length}
-use borrow.Author.Tests.{eq-eqb}
+use borrow.Author.Tests.{eq-eqb, ne_eqb}
 use Rattle.draft.specs.Bytes.{bytes_of}
 use Rattle.draft.specs.Cause.{cause_number}
-use Rattle.draft.specs.Forms.{with_names, line_says}
-use Rattle.draft.specs.Text.{Draw, refuse, with_line, reading, read_line, ended, start}
+use Rattle.draft.specs.Forms.{Outcome, with_names, line_says}
+use Rattle.draft.specs.Text.{Draw, refuse, with_line, reading, next_line, read_line, ended, start}
 use Rattle.draft.specs.Packing.{line_at}
 use Rattle.draft.specs.Known.{known}
-use Rattle.draft.specs.Drafts.{Holds, Told, size}
+use Rattle.draft.specs.Drafts.{Holds, Told, Follows, size}
 use Rattle.draft.specs.LastJob.{bare_line}
 use Rattle.draft.specs.Laws.Fitting.{line_fits}
+use Rattle.draft.specs.Laws.TextLines.{cause_some}
 use Rattle.draft.specs.Laws.Drafting.{not_begun, is_begun, bare_refused, bare_not}
 use Rattle.draft.specs.declared.cause.Cause.{Cause}
 use Rattle.draft.specs.declared.cause.Cause.TheVariants.{SegmentCount}
@@ -41,6 +42,11 @@ pub record Turned (d after : Draft) (n : ℕ) : Type 0 where
   pub line : after.line ≡ n
   pub job : after.job ≡ d.job
 
+-- after a cause nothing more is read
+pub read_over : (d : Draft) (e : Refused) (x : Draw) → Told d (Err e) x → (n : ℕ) (ws : List (List ℕ)) → Told d (Err e) (read_line n ws x)
+unfolding read_line
+read_over d e x h n ws = rw (ne_eqb x.cause 0 (λ (z : x.cause ≡ 0). omega (arith, cause_some e.cause, h.0, z))) h
+
 module _ (d : Draft) (x : Draw) (h : Holds d x) where
   -- line n says this, and these names are known after it
   module _ (n : ℕ) (ws : List (List ℕ)) (after : List (List ℕ)) where
@@ -65,6 +71,22 @@ module _ (d : Draft) (x : Draw) (h : Holds d x) where
     names = refl;
     few = (rw (← e) at (line_fits (known d.names) (rw h.names h.few) ws)).1;
   }
+
+  -- line n is read and says this, and a draft that starts to read it, with the names known after it, holds the lines before it
+  pub line_told : (ns : List (List ℕ)) (n : ℕ) (ws : List (List ℕ)) (line : Line) → n ≡ next_line d.line → with_names (Ok line) ns ≡ line_says (known d.names) ws
+      → (read_line (next_line d.line) ws x ≡ with_line n line (reading n ns x)) × ((after : Draft) → Turned d after n → known after.names ≡ ns → Holds after (reading n ns x))
+  line_told ns n ws line p e = (rw (← p) (reads_line n ws ns line e), λ after t q. rw (← q) (holds_reading after n ws line (rw q e) t))
+
+  -- a step of the code from the draft that starts to read line n, or its refusal
+  abbrev Step : (after r : Draft) (n : ℕ) → Result (Unit {0}) Refused → Outcome → Type 0
+  Step after r n result (Ok line) = Follows after r result (with_line n line)
+  Step after r n result (Err cause) = result ≡ Err (record { cause = cause; line = n })
+
+  pub read_line_lem : (after r : Draft) (result : Result (Unit {0}) Refused) (n : ℕ) (ws : List (List ℕ)) (said : Outcome) → with_names said (known after.names) ≡ line_says (known d.names) ws
+      → Turned d after n → Step after r n result said → Told r result (read_line n ws x)
+  read_line_lem after r result n ws (Ok line) e t step =
+      rw (reads_line n ws (known after.names) line e) (step (reading n (known after.names) x) (holds_reading after n ws line e t))
+  read_line_lem after r result n ws (Err cause) e t step = rw (step, reads_fault n ws (known after.names) cause e) (refl, refl)
 
   -- the text ends
   pub ended_none : size d ≡ 0 → ended x ≡ refuse 10 x.line x

@@ -20,6 +20,12 @@ pub bytes_one : (r : Lined) → lined_bytes (r ∷ []) ≡ record_bytes r.what
 unfolding bytes_of
 bytes_one r = append-nil (record_bytes r.what)
 
+pub size_append : (xs ys : List Lined) → length (lined_bytes (xs ++ ys)) ≡ length (lined_bytes xs) + length (lined_bytes ys)
+size_append xs ys = ap length (bytes_append xs ys) ∙ length-append (lined_bytes xs) (lined_bytes ys)
+
+pub size_one : (r : Lined) → length (lined_bytes (r ∷ [])) ≡ size_of r.what
+size_one r = ap length (bytes_one r) ∙ record_size r.what
+
 size_cons : (x : Lined) (xs : List Lined) → length (lined_bytes (x ∷ xs)) ≡ size_of x.what + length (lined_bytes xs)
 unfolding bytes_of
 size_cons x xs = length-append (record_bytes x.what) (lined_bytes xs) ∙ rw (record_size x.what)
@@ -103,3 +109,9 @@ bytes_counted done ss line release priority m n job e =
     rw (job_bytes done ss line release priority m, job_bytes done ss line release priority n)
     (store_after (lined_bytes done) (record_bytes (Job release priority m) ++ lined_bytes ss) 7 (job + 7) n (omega (arith, e))
     ∙ ap (λ (b : List ℕ). lined_bytes done ++ b) (recount release priority m n (lined_bytes ss)))
+
+-- its size does not depend on the count
+pub size_counted : (done ss : List Lined) (line release priority m n : ℕ)
+    → length (lined_bytes (done ++ record { line = line; what = Job release priority m } ∷ ss)) ≡ length (lined_bytes (done ++ record { line = line; what = Job release priority n } ∷ ss))
+size_counted done ss line release priority m n =
+    size_append done _ ∙ rw (size_cons (record { line = line; what = Job release priority m }) ss) (sym (size_append done _ ∙ rw (size_cons (record { line = line; what = Job release priority n }) ss)))

@@ -8,7 +8,7 @@ use Rattle.std.specs.Slice.Iter.{split_rest, split_done, split_callee, split_ste
 use Rattle.std.proofs.lemmas.Iterator.{YieldsList}
 use Rattle.std.proofs.lemmas.Iterator.Splits.{YieldsList-from_slice_split}
 use denote.Param.Members.{Mut}
-use Rattle.draft.specs.Words.{words_of, lines_of}
+use Rattle.draft.specs.Words.{is_in_line, words_of, lines_of, run}
 use Rattle.draft.specs.Cause.{cause_number}
 use Rattle.draft.specs.Forms.{Says, line_says}
 use Rattle.draft.specs.Text.{Last, no_job, a_job, Draw, refuse, unless_bare, with_frame, with_job, add_segment, with_segment, with_line, reading, said, start, next_line, read_line, read_lines, ended, draw_of}
@@ -81,6 +81,10 @@ kept_said n (Err c) x = kept_refused n (cause_number c) n (reading n x.names x) 
 kept_read : (n : ℕ) (ws : List (List ℕ)) (x : Draw) → x.cause ≡ 0 → Kept n (read_line n ws x)
 unfolding read_line
 kept_read n ws x z = rw (eq-eqb x.cause 0 z) (kept_said n (line_says x.names ws) x)
+
+-- a line ends no earlier than it starts
+pub line_inside : (s : List ℕ) (at end : ℕ) → end ≡ at + run is_in_line (drop at s) → at ≤ end
+line_inside s at end ends = omega (arith, ends)
 
 -- ---- the loop: k lines are read, and those from there on make up the whole
 

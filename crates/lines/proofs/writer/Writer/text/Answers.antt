@@ -1,5 +1,9 @@
-use Rattle.lines.specs.Writer.{writes_byte}
+use Rattle.std.proofs.Common.{refl}
+use Rattle.lines.specs.Put.{part_put}
 use Rattle.lines.proofs.writer.Writer.text.Goals as goal
 
-pub loop-b-preserved : goal.loop-b-preserved
-loop-b-preserved c = writes_byte _ _ c.loop-b-test.true c.loop-b.invariant c.byte.ensures
+pub returns : goal.returns
+returns c = record {
+  put = record { place = refl; content = part_put c.args.self.now.out.now c.args.s.now c.args.self.now.length _ _ c.min-start.ensures c.min-part.ensures _ c.copy_from_slice.ensures.after };
+  same = refl;
+}
