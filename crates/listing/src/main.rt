@@ -13,11 +13,9 @@ const WORDS: usize = 16384;
 const TEXT: usize = 204900;
 
 fn list(rt: &impl Print, table: &[u8], words: &mut [u32], text: &mut [u8]) -> io::Result<()> {
-    let (refusal, counts) = match services::tree(table, words) {
-        Ok(counts) => (0, counts),
-        Err(refusal) => (u32::from(refusal), Counts::default()),
-    };
-    let length = lines::listing(refusal, counts.nodes, counts.orders, words, text);
+    let drawn = services::tree(table, words);
+    let Counts { nodes, orders } = drawn.unwrap_or_default();
+    let length = lines::listing(services::number_of(drawn), nodes, orders, words, text);
     match text.get(..length) {
         Some(text) => rt.write_all(text),
         None => Ok(()),

@@ -22,7 +22,7 @@ fn turn(rt: &(impl Print + Eprint), text: &[u8], bytes: &mut [u8; 4096]) -> io::
 
 // One byte more than a text may have is read, so that a longer one is refused.
 fn main(rt: HostRuntime) -> io::Result<()> {
-    let mut text = [0u8; 65537];
+    let mut text = [0u8; TEXT + 1];
     let mut bytes = [0u8; 4096];
     let n = input::read_full(&mut rt.stdin(), &mut text)?;
     if TEXT < n {

@@ -2,7 +2,7 @@
 use crate::text;
 
 // A command that calls a service with numbers has its line, whose words after the first they are.
-#[derive(Clone, Copy)]
+#[derive(Clone, Copy, Debug, PartialEq, Eq)]
 pub enum Command<'a> {
     Table(&'a [u8]),
     Room(usize),
@@ -13,7 +13,7 @@ pub enum Command<'a> {
 }
 
 impl<'a> Command<'a> {
-    // A line that begins with none of the commands' names is a remark.
+    // A line that begins with none of the commands' names is a remark. The beginning alone tells, so that no `match` on the line or its first word would do.
     pub fn of(line: &'a [u8]) -> Option<Command<'a>> {
         if let Some(rest) = line.strip_prefix(b"table ") {
             Some(Command::Table(text::first_word(rest)))

@@ -1,7 +1,6 @@
 // Runs the vectors: reads commands line by line from standard input and writes each with what the library answers.
 #![tactic(auto)]
 
-mod call;
 mod command;
 mod session;
 mod show;

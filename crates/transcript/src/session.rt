@@ -2,8 +2,8 @@
 // not said to write must hold it afterwards.
 use crate::command::Command;
 use crate::show::{Hex, Words};
+use crate::text;
 use crate::text::TABLE;
-use crate::{call, text};
 use arrayvec::ArrayVec;
 use services::Counts;
 use std::io;
@@ -60,9 +60,9 @@ impl Session {
         self.table = text::bytes(hex);
         self.room = ROOM;
         let table = self.table.as_slice();
-        let (refusal, place, jobs) = match call::read(table) {
+        let (refusal, place, jobs) = match Table::read(table) {
             Ok(table) => (0, 0, table.jobs),
-            Err((refusal, place)) => (refusal, place, 0),
+            Err(refused) => (u32::from(refused.fault), refused.place, 0),
         };
         print!(rt; "reads {refusal} {place}")?;
         for job in 0..=jobs.min(32) as u32 {
@@ -71,13 +71,13 @@ impl Session {
         println!(rt; " {}", Hex(Table::part(table, u32::MAX)))
     }
 
-    // list: what the listing program prints.
+    // list: what the listing program prints. `lines` stands on no service, so that the call stands here too.
     fn list(&mut self, rt: &impl Print) -> io::Result<()> {
         let words = marked(&mut self.words, ROOM);
-        let drawn = call::tree(self.table.as_slice(), words);
+        let drawn = services::tree(self.table.as_slice(), words);
         let Counts { nodes, orders } = drawn.unwrap_or_default();
         let length = lines::listing(
-            drawn.err().unwrap_or(0),
+            services::number_of(drawn),
             nodes,
             orders,
             words,
@@ -93,8 +93,8 @@ impl Session {
     fn replay(&mut self, rt: &impl Print, line: &[u8]) -> io::Result<()> {
         let times = text::numbers(line);
         let log = marked(&mut self.words, self.room);
-        let replayed = call::replay(self.table.as_slice(), times.as_slice(), log);
-        print!(rt; "-> {}", replayed.err().unwrap_or(0))?;
+        let replayed = services::replay(self.table.as_slice(), times.as_slice(), log);
+        print!(rt; "-> {}", services::number_of(replayed))?;
         told(rt, log, 4 * replayed.unwrap_or(0) as usize)
     }
 
@@ -102,19 +102,26 @@ impl Session {
     fn judge(&mut self, rt: &impl Print, line: &[u8]) -> io::Result<()> {
         let log = text::numbers(line);
         let times = marked(&mut self.words, self.room);
-        let judged = call::judge(self.table.as_slice(), log.as_slice(), times);
-        print!(rt; "-> {}", judged.err().unwrap_or(0))?;
-        told(rt, times, judged.unwrap_or(0))
+        let table = self.table.as_slice();
+        let judged = services::judge(table, log.as_slice(), times);
+        print!(rt; "-> {}", services::number_of(judged))?;
+        let count = judged.map_or(0, |()| segments(table));
+        told(rt, times, count)
     }
 
     // tree: the refusal, how many nodes and orders there are, and the nodes.
     fn tree(&mut self, rt: &impl Print) -> io::Result<()> {
         let words = marked(&mut self.words, self.room);
-        let drawn = call::tree(self.table.as_slice(), words);
+        let drawn = services::tree(self.table.as_slice(), words);
         let Counts { nodes, orders } = drawn.unwrap_or_default();
-        print!(rt; "-> {} {nodes} {orders}", drawn.err().unwrap_or(0))?;
+        print!(rt; "-> {} {nodes} {orders}", services::number_of(drawn))?;
         told(rt, words, 8 * nodes as usize)
     }
+}
+
+// How many segments a table has, each of which has a time.
+fn segments(table: &[u8]) -> usize {
+    Table::read(table).map_or(0, |table| table.segments)
 }
 
 // As many words as are asked for, and no more than there are, each with the mark.

@@ -2,7 +2,7 @@
 use std::fmt;
 
 // Words with a blank before each, and `-` for 4,294,967,295.
-#[derive(Clone, Copy)]
+#[derive(Clone, Copy, Debug, PartialEq, Eq)]
 pub struct Words<'a>(pub &'a [u32]);
 
 impl fmt::Display for Words<'_> {
@@ -18,7 +18,7 @@ impl fmt::Display for Words<'_> {
 }
 
 // Bytes in hexadecimal: `-` where there is none.
-#[derive(Clone, Copy)]
+#[derive(Clone, Copy, Debug, PartialEq, Eq)]
 pub struct Hex<'a>(pub &'a [u8]);
 
 impl fmt::Display for Hex<'_> {

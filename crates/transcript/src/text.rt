@@ -20,22 +20,18 @@ pub fn number(s: &[u8]) -> u32 {
     }
     s.iter().fold(
         0u32,
-        |n, c| n.wrapping_mul(10).wrapping_add(digit(*c) as u32),
+        |n, c| n.wrapping_mul(10).wrapping_add(u32::from(digit(*c))),
     )
 }
 
-// The numbers of a line after its first word, as many as fit.
+// The numbers of a line after its first word, as many as fit: `extend` stops where there is no room.
 pub fn numbers(line: &[u8]) -> ArrayVec<u32, NUMBERS> {
     let mut numbers = ArrayVec::new();
-    for word in line.split(|c| *c == b' ').skip(1) {
-        if numbers.is_full() {
-            break;
-        }
-        numbers.push(number(word));
-    }
+    let _ = numbers.extend(line.split(|c| *c == b' ').skip(1).map(number));
     numbers
 }
 
+// Small letters alone are digits, where `to_digit(16)` takes capital letters too.
 fn digit(c: u8) -> u8
     ensures { result < 16 }
 {
@@ -50,11 +46,10 @@ fn digit(c: u8) -> u8
 pub fn bytes(word: &[u8]) -> ArrayVec<u8, TABLE> {
     let mut bytes = ArrayVec::new();
     let (pairs, _) = word.as_chunks::<2>();
-    for [high, low] in pairs {
-        if bytes.is_full() {
-            break;
-        }
-        bytes.push(16 * digit(*high) + digit(*low));
-    }
+    let _ = bytes.extend(
+        pairs
+            .iter()
+            .map(|[high, low]| 16 * digit(*high) + digit(*low)),
+    );
     bytes
 }
