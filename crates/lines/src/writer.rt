@@ -1,5 +1,5 @@
 // Words written into a lent buffer, as far as it goes: byte for byte, as `listing` promises, and so not by `write!`.
-ghost use Rattle.std.specs.Prelude.{◌+◌, ◌^◌, ◌<◌, ◌≤◌, length};
+ghost use Rattle.std.specs.Prelude.{◌≡◌, ◌+◌, ◌^◌, ◌<◌, ◌≤◌, length, set};
 ghost use Rattle.lines.specs.Text.{decimal, shown, kind_word};
 ghost use Rattle.lines.specs.Writer.{Writes, WritesWord};
 
@@ -15,15 +15,29 @@ pub struct Writer<'a> {
     pub length: usize,
 }
 
+// One byte, where there is room.
+fn store(out: &mut [u8], at: usize, b: u8)
+    ensures { out.new ≡ set out.old at b }
+{
+    if at < out.len() {
+        out[at] = b;
+    }
+}
+
 impl Writer<'_> {
+    // Byte by byte: words are short, and a copy of so few bytes takes longer than their stores. The buffer and the place are values of their own, so that they
+    // stay in registers.
     fn text(&mut self, s: &[u8])
         requires { self.old.length + length s.now < 2 ^ 64 }
         ensures { Writes self.old s.now self.new }
     {
-        let start = self.length.min(self.out.len());
-        let part = s.len().min(self.out.len() - start);
-        self.out[start..start + part].copy_from_slice(&s[..part]);
-        self.length += s.len();
+        let out = &mut *self.out;
+        let mut at = self.length;
+        for b in s {
+            store(out, at, *b);
+            at += 1;
+        }
+        self.length = at;
     }
 
     // A word, and the byte that ends it.

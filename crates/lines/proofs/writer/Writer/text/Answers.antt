@@ -1,9 +1,6 @@
-use Rattle.std.proofs.Common.{refl}
-use Rattle.lines.specs.Put.{part_put}
+use Rattle.std.proofs.Common.{arith, refl}
+use Rattle.lines.specs.Put.{put_byte}
 use Rattle.lines.proofs.writer.Writer.text.Goals as goal
 
-pub returns : goal.returns
-returns c = record {
-  put = record { place = refl; content = part_put c.args.self.now.out.now c.args.s.now c.args.self.now.length _ _ c.min-start.ensures c.min-part.ensures _ c.copy_from_slice.ensures.after };
-  same = refl;
-}
+pub loop-b-preserved : goal.loop-b-preserved
+loop-b-preserved c = put_byte c.args.s.now c.loop-b.b-index (omega (arith, c.loop-b-test.true)) c.loop-b.invariant (record { place = refl; content = c.store.ensures })
