@@ -35,10 +35,10 @@ impl<'a> Draft<'a> {
     ghost use Rattle.draft.specs.Text.{next_line, with_frame, with_job, with_segment, read_line, ended, start, draw_of};
     ghost use Rattle.draft.specs.Packing.{or_last};
     ghost use Rattle.draft.specs.LastJob.{bare_line};
-    ghost use Rattle.draft.specs.Drafts.{Holds, Refuses, Follows, Pushed, size};
+    ghost use Rattle.draft.specs.Drafts.{Holds, Told, Follows, Pushed, size};
     ghost use Rattle.table.specs.declared.records.Record.TheVariants.{Segment as SegmentRecord};
 
-    fn new() -> Draft<'a>
+    pub fn new() -> Draft<'a>
         ensures { Holds result start }
     {
         Draft {
@@ -158,16 +158,15 @@ impl<'a> Draft<'a> {
         self.no_bare_job()
     }
 
-    // The table that a text says.
-    pub fn of(text: &'a [u8]) -> Result<Draft<'a>, Refused>
-        ensures { MatchResult result (λ d. Holds d (draw_of text.now)) (λ e. Refuses e (draw_of text.now)) }
+    // The lines of a text, read into a draft that has none yet: it is as large as a table, so that it is lent and not handed back.
+    pub fn read_all(&mut self, text: &'a [u8]) -> Result<(), Refused>
+        requires { Holds self.old start }
+        ensures { Told self.new result (draw_of text.now) }
     {
-        let mut draft = Draft::new();
         for line in text.split(|b| *b == b'\n') {
-            draft.read(line)?;
+            self.read(line)?;
         }
-        draft.end()?;
-        Ok(draft)
+        self.end()
     }
 
     pub fn bytes(&self) -> &[u8]

@@ -21,7 +21,8 @@ pub fn pack(text: &[u8], out: &mut [u8; 4096]) -> Result<usize, Refused>
     ensures given { Gives out.old out.new result (pack_of text.now) }
     ensures fits { IfOk result (λ n. n ≤ 4096) }
 {
-    let draft = Draft::of(text)?;
+    let mut draft = Draft::new();
+    draft.read_all(text)?;
     let bytes = draft.bytes();
     if let Err(refused) = Table::read(bytes) {
         return Err(Refused {

@@ -110,6 +110,11 @@ module _ (s : List ℕ) (d : Draft) (k : ℕ) (going : Going s d k) where
     pub go_on : (d' : Draft) → Holds d' next → Going s d' (k + 1)
     go_on d' h = record { so_far = next; holds = h; to_come = rw (h.line ∙ kept_read (next_line d.line) (words_of line) going.so_far going.holds.cause h.cause) one_line }
 
+    -- the text ends with this line
+    pub ends_here : length (lines_of s) ≤ k + 1 → ended next ≡ draw_of s
+    unfolding draw_of read_lines
+    ends_here h = ap ended (rw (drop_of_length-le (lines_of s) h) at one_line)
+
     -- the text is refused at this line
     pub stops : (e : Refused) → Refuses e next → Refuses e (draw_of s)
     unfolding draw_of

@@ -9,8 +9,8 @@ use Rattle.std.specs.Slice.Iter.{split_steps, split_callee}
 use Rattle.std.specs.Fn.{CalledAt}
 use Rattle.std.specs.Prelude.{eqb}
 use denote.Param.Members.{Mut}
-use Rattle.draft.proofs.draft.Draft.of.Goals as goal
-use Rattle.draft.proofs.draft.Draft.of.Goals.{After-into_iter-line-iterator}
+use Rattle.draft.proofs.draft.Draft.read_all.Goals as goal
+use Rattle.draft.proofs.draft.Draft.read_all.Goals.{After-into_iter-line-iterator}
 
 -- the loop goes over the lines of the text
 items : {g : Mut _ (Bor ℕ × Unit {0}) Bool} (c : After-into_iter-line-iterator)
@@ -30,15 +30,8 @@ returns-in_err-read c =
     let p = err_from_is_err_and c.from_residual.result c.from_residual.ensures.1 in
     rw (p.1, p.2) (stops _ _ _ c.loop-line.invariant c.in-Some.line.now t.0 t.1 _ (c.in_err-read.ensures _ c.loop-line.invariant.holds))
 
-pub returns-in_err-end : goal.returns-in_err-end
-returns-in_err-end c =
-    let t = YieldsList-end (items (goal.at.returns-in_err-end c).After-into_iter-line-iterator (λ x b q k. search rules)) c.loop-line.yielded _ c.loop-line.yielded_by _ _ c.in-None.is c.next.ensures.steps in
-    let over : length (lines_of c.args.text.now) ≤ length c.loop-line.yielded = omega (arith, t.1) in
-    let p = err_from_is_err_and c.from_residual-in_err-end.result c.from_residual-in_err-end.ensures.1 in
-    rw (p.1, p.2, ← ends _ _ _ c.loop-line.invariant over) (c.in_err-end.ensures _ c.loop-line.invariant.holds)
-
 pub returns : goal.returns
 returns c =
     let t = YieldsList-end (items (goal.at.returns c).After-into_iter-line-iterator (λ x b q k. search rules)) c.loop-line.yielded _ c.loop-line.yielded_by _ _ c.in-None.is c.next.ensures.steps in
     let over : length (lines_of c.args.text.now) ≤ length c.loop-line.yielded = omega (arith, t.1) in
-    rw (← ends _ _ _ c.loop-line.invariant over) (c.in_ok-end.ensures _ c.loop-line.invariant.holds)
+    rw (← ends _ _ _ c.loop-line.invariant over) (c.end.ensures _ c.loop-line.invariant.holds)

@@ -1,6 +1,6 @@
 use Rattle.std.proofs.Common.{length}
 use Rattle.draft.specs.Laws.TextLines.{Going}
-use Rattle.draft.proofs.draft.Draft.of.Given as goal
+use Rattle.draft.proofs.draft.Draft.read_all.Given as goal
 
 abbrev pub invariant-loop-line : goal.invariant-loop-line
-invariant-loop-line l = Going l.text l.draft (length l.yielded)
+invariant-loop-line l = Going l.text l.self (length l.yielded)
