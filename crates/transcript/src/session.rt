@@ -1,5 +1,5 @@
-// What the commands so far have set, and the memory that the library is lent. Each call is lent words that hold a mark, and a word that the service is
-// not said to write must hold it afterwards.
+// What the commands so far have set, and the memory that the library is lent. Each call but that of `list` is lent words that hold a mark, and a word
+// that the service is not said to write must hold it afterwards.
 use crate::command::Command;
 use crate::show::{Hex, Words};
 use crate::text;
@@ -73,7 +73,7 @@ impl Session {
 
     // list: what the listing program prints. `lines` stands on no service, so that the call stands here too.
     fn list(&mut self, rt: &impl Print) -> io::Result<()> {
-        let words = marked(&mut self.words, ROOM);
+        let words = lent(&mut self.words, ROOM);
         let drawn = services::tree(self.table.as_slice(), words);
         let Counts { nodes, orders } = drawn.unwrap_or_default();
         let length = lines::listing(
@@ -124,10 +124,15 @@ fn segments(table: &[u8]) -> usize {
     Table::read(table).map_or(0, |table| table.segments)
 }
 
-// As many words as are asked for, and no more than there are, each with the mark.
-fn marked(words: &mut [u32], room: usize) -> &mut [u32] {
+// As many words as are asked for, and no more than there are.
+fn lent(words: &mut [u32], room: usize) -> &mut [u32] {
     let room = room.min(words.len());
-    let words = &mut words[..room];
+    &mut words[..room]
+}
+
+// The same, each with the mark.
+fn marked(words: &mut [u32], room: usize) -> &mut [u32] {
+    let words = lent(words, room);
     words.fill(MARK);
     words
 }
