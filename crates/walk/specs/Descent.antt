@@ -33,6 +33,7 @@ ends J (node x below beside) = iflt x.label.job J.jobs 0 1 + (ends J below + end
 -- from the words b and the count c the forest F was walked: its nodes are counted up to cap, and written where none is left out
 pub record Wrote (J : JobSet) (F : Forest) (parent cap : ℕ) (b : List ℕ) (c : Counts) (b' : List ℕ) (c' : Counts) : Type 0 where
   pub nodes : c'.nodes ≡ min (c.nodes + size F) cap
+  pub orders : c.orders ≤ c.nodes → c'.orders ≤ c'.nodes
   pub full : c.nodes + size F ≤ cap → (b' ≡ sets b (8 * c.nodes) (words J parent c.nodes F)) × (c'.orders ≡ c.orders + ends J F)
 
 -- no tick can grow too large in so many switches

@@ -3,7 +3,7 @@ use Rattle.std.proofs.Common.{ℕ, ◌+◌, ◌*◌, ◌≤◌, ◌<◌, arith, 
 use Rattle.std.specs.Prelude.{◌≡◌, refl, length}
 use Rattle.std.proofs.Math.Seq.{sets}
 use Rattle.kernel.specs.Rules.{JobSet}
-use Rattle.kernel.specs.Laws.Tests.{iflt}
+use Rattle.kernel.specs.Laws.Tests.{split, iflt, if-lt, if-ge}
 use Rattle.kernel.specs.Laws.Step.{State}
 use Rattle.orders.specs.Orders.{Info, Forest, none, node, size}
 use Rattle.orders.specs.Nodes.{node_words}
@@ -11,25 +11,28 @@ use Rattle.orders.specs.Laws.Box.{Box, Child}
 use Rattle.orders.specs.Laws.Walk.{hang}
 use Rattle.orders.specs.Laws.Words.{words, words_length}
 use Rattle.kernel.proofs.Noted.{sets_append}
-use Rattle.walk.specs.Descent.{ends, Wrote, Kept, Writes}
+use Rattle.walk.specs.Descent.{ends, Wrote}
 use Rattle.walk.specs.Counts.{Room}
 use Rattle.walk.specs.Laws.Forests.{size_append, ends_append, words_append}
 use Rattle.walk.specs.declared.counts.Counts.{Counts}
-use Rattle.walk.specs.declared.descent.Walk.{Walk}
 
 -- a count that stays within its limit
-pub still_room : {o n : Walk} {F : Forest} {parent : ℕ} → Room o.seen o.cap → Kept o n → Writes o n parent F → Room n.seen o.cap
-still_room {o} {n} r K W = rw K.cap at n.room
+pub still_room : {J : JobSet} {F : Forest} {parent cap : ℕ} {b b' : List ℕ} {c c' : Counts} → Room c cap → Wrote J F parent cap b c b' c' → Room c' cap
+still_room r W = record { nodes = omega (arith, W.nodes); orders = W.orders r.orders; most = r.most }
+
+-- a node is one order at most
+one_most : (a b : ℕ) → iflt a b 0 1 ≤ 1
+one_most a b = split a b (λ (h : a < b). omega (arith, if-lt {X = ℕ} a b 0 1 h)) (λ (h : b ≤ a). omega (arith, if-ge {X = ℕ} a b 0 1 h))
 
 module _ {J : JobSet} {parent cap : ℕ} where
   pub wrote_none : {b : List ℕ} {c : Counts} → Room c cap → Wrote J none parent cap b c b c
   unfolding size words ends
-  wrote_none r = record { nodes = omega (arith, r.nodes); full = λ h. (refl, omega arith) }
+  wrote_none r = record { nodes = omega (arith, r.nodes); orders = λ h. h; full = λ h. (refl, omega arith) }
 
   -- the limit is reached
   pub wrote_past : {x : Info} {F G : Forest} {b : List ℕ} {c : Counts} → Room c cap → cap ≤ c.nodes → Wrote J (node x F G) parent cap b c b c
   unfolding size
-  wrote_past r h = record { nodes = omega (arith, r.nodes); full = λ q. absurd (omega arith) }
+  wrote_past r h = record { nodes = omega (arith, r.nodes); orders = λ h. h; full = λ q. absurd (omega arith) }
 
   -- a node, counted as an order where it ends a run, and then what stands below it
   pub wrote_node : {x : Info} {F : Forest} {b b' b'' : List ℕ} {c c' c'' : Counts} {last : ℕ} → c.nodes < cap
@@ -40,6 +43,7 @@ module _ {J : JobSet} {parent cap : ℕ} where
   unfolding size words ends
   wrote_node {x} {F} {b} {b'} {c = c} {c' = c'} h p e en eo W = record {
     nodes = omega (arith, W.nodes);
+    orders = λ q. W.orders (omega (arith, one_most x.label.job J.jobs, e));
     full = λ q.
         let (y, z) = W.full (omega arith) in
         let row : List ℕ = node_words J (parent, x) in
@@ -60,6 +64,7 @@ module _ {J : JobSet} {parent cap : ℕ} where
       let m = size_append J below xs ys in
       record {
         nodes = omega (arith, U.nodes, W.nodes);
+        orders = λ h. W.orders (U.orders h);
         full = λ h.
             let e : c'.nodes ≡ c.nodes + size (hang below xs) = omega (arith, U.nodes) in
             let (p, q) = U.full (omega arith) in
