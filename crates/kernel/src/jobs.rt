@@ -1,7 +1,7 @@
 // The job set of a table: its jobs and its segments in table order, in rows of fixed room. A number that it does not have is 0.
 #![tactic(auto, unfolding(crate::specs::Held::set_of, crate::specs::Held::first_of, crate::specs::Held::job_at, crate::specs::Held::segment_at))]
 
-ghost use Rattle.std.specs.Prelude.{◌≡◌};
+ghost use Rattle.std.specs.Prelude.{◌≡◌, get_or};
 ghost use Rattle.kernel.specs.Held.{set_of, first_of, job_at, segment_at};
 ghost use Rattle.kernel.specs.Code.{time_at};
 
@@ -30,6 +30,13 @@ pub struct Jobs {
     pub count: usize,
     pub job: [Job; 32],
     pub segment: [Segment; 64],
+}
+
+// A word of a row; 0 past its end.
+pub fn word_at(words: &[u32], i: usize) -> u32
+    ensures { result ≡ get_or words.now i 0 }
+{
+    words.get(i).copied().unwrap_or(0)
 }
 
 impl Jobs {
@@ -112,9 +119,6 @@ impl Jobs {
     pub fn time(&self, times: &[u32], i: usize, k: u32) -> u32
         ensures { result ≡ time_at self.now times.now i k }
     {
-        times
-            .get(self.first(i) as usize + k as usize)
-            .copied()
-            .unwrap_or(0)
+        word_at(times, self.first(i) as usize + k as usize)
     }
 }

@@ -1,8 +1,10 @@
 -- What a job set from a table owes, and dispatch by one weight per job.
-use Rattle.std.specs.Prelude.{◌≡◌, Bool, true, false, cond, ℕ, suc, ◌+◌, ◌*◌, ◌≤◌, ◌<◌, max}
+use native.Mathlib.Bridge.{le_prop}
+use mathlib.Core.Logic.{∥∥₁_elim}
+use Rattle.std.specs.Prelude.{◌≡◌, Bool, true, false, cond, ℕ, zero, suc, ◌+◌, ◌*◌, ◌≤◌, ◌<◌, max}
 use Rattle.std.proofs.Common.{arith}
 use Rattle.kernel.specs.Rules.{JobSet, Progress, put, begun, Within}
-use Rattle.kernel.specs.Laws.Tests.{iflt, if-ge}
+use Rattle.kernel.specs.Laws.Tests.{split, iflt, if-ge}
 use Rattle.kernel.specs.Laws.Pick.{pick, next, first_above, Released}
 
 -- a job that has a segment
@@ -21,6 +23,19 @@ pub record Lawful (J : JobSet) : Type 0 where
   pub none_segments : J.segments J.jobs ≡ 0
   -- there is one
   pub worker : ∥ Worker J ∥₁
+
+-- which one: it is looked for from the last job down
+module _ (J : JobSet) (L : Lawful J) where
+  look_below : (n : ℕ) → n ≤ J.jobs → ((i : ℕ) → n ≤ i → i < J.jobs → J.segments i ≤ 0) → Worker J
+  look_below zero h none =
+      let no : 1 ≤ 0 = ∥∥₁_elim L.worker le_prop (λ w. omega (arith, none w.job (omega arith) w.inside, w.some)) in
+      absurd (omega (arith, no))
+  look_below (suc n) h none = split 0 (J.segments n) (λ (s : 0 < J.segments n). record { job = n; inside = omega arith; some = s })
+      (λ (z : J.segments n ≤ 0). look_below n (omega arith)
+      (λ i a b. split n i (λ (q : n < i). none i q b) (λ (q : i ≤ n). let e : i ≡ n = omega arith in rw e z)))
+
+  pub worker_found : Worker J
+  worker_found = look_below J.jobs (omega arith) (λ i a b. absurd (omega arith))
 
 -- every segment takes at least one tick
 abbrev pub Positive : JobSet → (ℕ → ℕ → ℕ) → Type 0
