@@ -158,7 +158,7 @@ impl<'a> Draft<'a> {
         self.no_bare_job()
     }
 
-    // The lines of a text, read into a draft that has none yet: it is as large as a table, so that it is lent and not handed back.
+    // The lines of a text, read into a draft that has none yet. It has room for the longest table and a line for each of its bytes, so that it is lent and not handed back.
     pub fn read_all(&mut self, text: &'a [u8]) -> Result<(), Refused>
         requires { Holds self.old start }
         ensures { Told self.new result (draw_of text.now) }
